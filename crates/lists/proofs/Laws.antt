@@ -1,0 +1,228 @@
+-- Laws of tests, scans, tables and counted arrays.
+use mathlib.Core.Path.{_≡_, refl, sym, ap, _∙_}
+use mathlib.Core.Bool.{Bool, true, false, _&&_}
+use mathlib.Core.List.{List, [], _∷_, _++_}
+use Prim.Native.Nat.{ℕ, zero, suc, _+_, _-_, _≤_, _<_}
+use native.Mathlib.Omega.{arith}
+use native.Mathlib.Numerals.{add-one}
+use native.Mathlib.Decide.{decLt}
+use lib.ListN.{length, getD, take, drop, replicate, length-append, length-take, length-replicate, getD-replicate, List·getD-append, List·getD-eq-default}
+use lib.Seq.{getD-drop, getD-take, getD-append-add, getD-append-seam}
+use Rattle.lists.specs.declared.Cell.{Cell}
+use Rattle.lists.specs.Lists.{all, every, allBelow, oneIf, countBelow, table, first, Below}
+use Rattle.lists.specs.Cells.{cell, keysOf, wordsOf}
+
+-- ---- truth values
+
+-- to go by cases on a computed test, and keep the equation
+pub by-cases : {P : Type 0} (b : Bool) → (b ≡ true → P) → (b ≡ false → P) → P
+by-cases true f g = f refl
+by-cases false f g = g refl
+
+pub and-l : (a b : Bool) → (a && b) ≡ true → a ≡ true
+and-l true b h = refl
+and-l false b h = h
+
+pub and-r : (a b : Bool) → (a && b) ≡ true → b ≡ true
+and-r true b h = h
+and-r false b h = let z : _≡_ {A = ℕ} 0 1 = cc in absurd (omega arith)
+
+pub and-both : {a b : Bool} → a ≡ true → b ≡ true → (a && b) ≡ true
+and-both p q = rw (p, q)
+
+pub true-false : {P : Type 0} {b : Bool} → b ≡ true → b ≡ false → P
+true-false p q = let z : _≡_ {A = ℕ} 0 1 = cc in absurd (omega arith)
+
+-- ---- tests over lists
+
+module _ {A : Type 0} (f : A → Bool) where
+  pub all-head : (x : A) (xs : List A) → all f (x ∷ xs) ≡ true → f x ≡ true
+  unfolding all
+  all-head x xs h = and-l (f x) (all f xs) h
+
+  pub all-tail : (x : A) (xs : List A) → all f (x ∷ xs) ≡ true → all f xs ≡ true
+  unfolding all
+  all-tail x xs h = and-r (f x) (all f xs) h
+
+  pub all-snoc : (xs : List A) (x : A) → all f (xs ++ (x ∷ [])) ≡ (all f xs && f x)
+  unfolding all
+  all-snoc [] x = one (f x)
+    where
+      one : (b : Bool) → (b && true) ≡ b
+      one true = refl
+      one false = refl
+  all-snoc (y ∷ ys) x = rw (all-snoc ys x) (mid (f y) (all f ys) (f x))
+    where
+      mid : (a b c : Bool) → (a && (b && c)) ≡ ((a && b) && c)
+      mid true b c = refl
+      mid false b c = refl
+
+  pub all-at : (xs : List A) (i : ℕ) (d : A) → i < length xs → all f xs ≡ true → f (getD xs i d) ≡ true
+  all-at [] i d h a = absurd (omega arith)
+  all-at (x ∷ xs) zero d h a = all-head x xs a
+  all-at (x ∷ xs) (suc i) d h a = all-at xs i d (omega arith) (all-tail x xs a)
+
+  -- a test of a table is a scan
+  pub all-table : (n : ℕ) (g : ℕ → A) → all f (table n g) ≡ allBelow n (λ i. f (g i))
+  unfolding table allBelow
+  all-table zero g = unfold all in refl
+  all-table (suc n) g = all-snoc (table n g) (g n) ∙ ap (λ (b : Bool). b && f (g n)) (all-table n g)
+
+-- the condition at place i of some that all hold
+pub every-at : (i : ℕ) (bs : List Bool) → every bs ≡ true → getD bs i true ≡ true
+unfolding every
+every-at i [] h = refl
+every-at zero (b ∷ bs) h = and-l b (every bs) h
+every-at (suc i) (b ∷ bs) h = every-at i bs (and-r b (every bs) h)
+
+-- ---- scans that a loop makes
+
+-- f holds of each number below i
+pub record Held (n i : ℕ) (f : ℕ → Bool) : Type 0 where
+  pub far : i ≤ n
+  pub so : allBelow i f ≡ true
+
+pub held-start : (n : ℕ) (f : ℕ → Bool) → Held n 0 f
+unfolding allBelow
+held-start n f = record { far = omega arith; so = refl }
+
+pub held-next : (n i : ℕ) (f : ℕ → Bool) → i < n → f i ≡ true → Held n i f → Held n (i + 1) f
+unfolding allBelow
+held-next n i f h e t = record { far = omega arith; so = rw (add-one i, t .so, e) }
+
+pub held-end : (n i : ℕ) (f : ℕ → Bool) → n ≤ i → Held n i f → true ≡ allBelow n f
+held-end n i f h t = let e : i ≡ n = omega (arith, t .far) in sym (rw e at (t .so))
+
+pub below-at : (n : ℕ) (f : ℕ → Bool) → allBelow n f ≡ true → (i : ℕ) → i < n → f i ≡ true
+unfolding allBelow
+below-at zero f h i l = absurd (omega arith)
+below-at (suc n) f h i l = go (decLt i n) (λ k. below-at n f (and-l (allBelow n f) (f n) h) i k)
+  where
+    go : Dec (i < n) → (i < n → f i ≡ true) → f i ≡ true
+    go (yes k) r = r k
+    go (no k) r = let e : i ≡ n = omega arith in rw e (and-r (allBelow n f) (f n) h)
+
+-- a number below n of which f does not hold stops the scan
+pub held-stop : (n i : ℕ) (f : ℕ → Bool) → i < n → f i ≡ false → false ≡ allBelow n f
+held-stop n i f l e = by-cases (allBelow n f) (λ h. true-false (below-at n f h i l) e) (λ h. sym h)
+
+-- how many of the numbers below i f holds of
+pub record Counted (n i k : ℕ) (f : ℕ → Bool) : Type 0 where
+  pub far : i ≤ n
+  pub low : k ≤ i
+  pub so : k ≡ countBelow i f
+
+pub counted-start : (n : ℕ) (f : ℕ → Bool) → Counted n 0 0 f
+unfolding countBelow
+counted-start n f = record { far = omega arith; low = omega arith; so = refl }
+
+one-most : (b : Bool) → oneIf b ≤ 1
+unfolding oneIf
+one-most true = omega arith
+one-most false = omega arith
+
+pub counted-next : (n i k x : ℕ) (f : ℕ → Bool) → i < n → x ≡ oneIf (f i) → Counted n i k f → Counted n (i + 1) (k + x) f
+unfolding countBelow
+counted-next n i k x f h e t = record { far = omega arith; low = omega (arith, t .low, one-most (f i)); so = rw (add-one i, e, ← t .so) }
+
+pub counted-end : (n i k : ℕ) (f : ℕ → Bool) → n ≤ i → Counted n i k f → k ≡ countBelow n f
+counted-end n i k f h t = let e : i ≡ n = omega (arith, t .far) in rw e at (t .so)
+
+-- ---- tables
+
+module _ {A : Type 0} (f : ℕ → A) (d : A) where
+  pub length-table : (n : ℕ) → length (table n f) ≡ n
+  unfolding table
+  length-table zero = refl
+  length-table (suc n) = omega (arith, length-append (table n f) (f n ∷ []), length-table n)
+
+  pub get-table : (n i : ℕ) → i < n → getD (table n f) i d ≡ f i
+  unfolding table
+  get-table zero i h = absurd (omega arith)
+  get-table (suc n) i h = go (decLt i n) (λ l. get-table n i l)
+    where
+      go : Dec (i < n) → (i < n → getD (table n f) i d ≡ f i) → getD (table n f ++ (f n ∷ [])) i d ≡ f i
+      go (yes l) r = List·getD-append (table n f) (f n ∷ []) d i (omega (arith, length-table n)) ∙ r l
+      go (no x) r =
+          let e : i ≡ n = omega arith in
+          rw e (ap (λ (k : ℕ). getD (table n f ++ (f n ∷ [])) k d) (sym (length-table n)) ∙ getD-append-seam (table n f) (f n) [] d)
+
+  -- past its end a table holds the default
+  pub past-table : (n i : ℕ) → n ≤ i → getD (table n f) i d ≡ d
+  past-table n i h = List·getD-eq-default (table n f) d {n = i} (omega (arith, length-table n))
+
+-- a table of rows
+pub get-rows : {A : Type 0} (f : ℕ → ℕ → A) (d : A) (h w k j : ℕ) → k < h → j < w → getD (getD (table h (λ i. table w (f i))) k []) j d ≡ f k j
+get-rows f d h w k j p q = ap (λ (row : List _). getD row j d) (get-table (λ i. table w (f i)) [] h k p) ∙ get-table (f k) d w j q
+
+-- ---- arrays with a count
+
+module _ {A : Type 0} (d : A) where
+  pub length-first : (n : ℕ) (s : List A) → length (first d n s) ≡ n
+  unfolding first
+  length-first n s = omega (arith, length-append (take n s) (replicate (n - length s) d), length-take n s, length-replicate (n - length s) d)
+
+  pub get-first : (n i : ℕ) (s : List A) → i < n → getD (first d n s) i d ≡ getD s i d
+  unfolding first
+  get-first n i s h = go (decLt i (length s))
+    where
+      go : Dec (i < length s) → getD (take n s ++ replicate (n - length s) d) i d ≡ getD s i d
+      go (yes l) = List·getD-append (take n s) (replicate (n - length s) d) d i (omega (arith, length-take n s)) ∙ getD-take n s i d h
+      go (no l) =
+          let k : length (take n s) + (i - length s) ≡ i = omega (arith, length-take n s) in
+          ap (λ (j : ℕ). getD (take n s ++ replicate (n - length s) d) j d) (sym k)
+          ∙ getD-append-add (take n s) (replicate (n - length s) d) (i - length s) d
+          ∙ getD-replicate (n - length s) (i - length s) d d (omega arith)
+          ∙ sym (List·getD-eq-default s d {n = i} (omega arith))
+
+-- ---- keys and words
+
+pub length-keys : (l : List Cell) → length (keysOf l) ≡ length l
+unfolding keysOf
+length-keys [] = refl
+length-keys (x ∷ xs) = ap suc (length-keys xs)
+
+pub length-words : (l : List Cell) → length (wordsOf l) ≡ length l
+unfolding wordsOf
+length-words [] = refl
+length-words (x ∷ xs) = ap suc (length-words xs)
+
+pub key-at : (l : List Cell) (i : ℕ) → getD (keysOf l) i 0 ≡ getD l i (cell 0 0) .key
+unfolding keysOf
+key-at [] i = refl
+key-at (x ∷ xs) zero = refl
+key-at (x ∷ xs) (suc i) = key-at xs i
+
+pub word-at : (l : List Cell) (i : ℕ) → getD (wordsOf l) i 0 ≡ getD l i (cell 0 0) .val
+unfolding wordsOf
+word-at [] i = refl
+word-at (x ∷ xs) zero = refl
+word-at (x ∷ xs) (suc i) = word-at xs i
+
+-- ---- numbers below a bound
+
+module _ {n : ℕ} where
+  pub below-tail : {x : ℕ} {xs : List ℕ} → Below n (x ∷ xs) → Below n xs
+  below-tail b = record { each = λ i. b .each (suc i) }
+
+  pub below-nil : 0 < n → Below n []
+  below-nil h = record { each = λ i. h }
+
+  pub below-cons : {x : ℕ} {xs : List ℕ} → x < n → Below n xs → Below n (x ∷ xs)
+  below-cons {x} {xs} h b = record { each = go }
+    where
+      go : (i : ℕ) → getD (x ∷ xs) i 0 < n
+      go zero = h
+      go (suc i) = b .each i
+
+  pub below-append : (xs ys : List ℕ) → Below n xs → Below n ys → Below n (xs ++ ys)
+  below-append [] ys a b = b
+  below-append (x ∷ xs) ys a b = below-cons (a .each 0) (below-append xs ys (below-tail a) b)
+
+  pub below-take : (k : ℕ) (xs : List ℕ) → Below n xs → Below n (take k xs)
+  below-take zero xs a = record { each = λ i. let h = a .each (length xs) in omega arith }
+  below-take (suc k) [] a = a
+  below-take (suc k) (x ∷ xs) a = below-cons (a .each 0) (below-take k xs (below-tail a))
+
+  pub below-drop : (k : ℕ) (xs : List ℕ) → Below n xs → Below n (drop k xs)
+  below-drop k xs a = record { each = λ i. rw (getD-drop k xs i 0) (a .each (k + i)) }

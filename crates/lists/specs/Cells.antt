@@ -1,0 +1,26 @@
+-- A number under a key, and its three names.
+use mathlib.Core.List.{List, [], _∷_}
+use Prim.Native.Nat.{ℕ}
+use Rattle.lists.specs.declared.Cell.{Cell}
+use Rattle.lists.specs.declared.Cells.{Cells}
+use Rattle.lists.specs.Lists.{first}
+
+abbrev pub cell : ℕ → ℕ → Cell
+cell k a = record { key = k; val = a }
+
+-- an entry of a page: a key and a word
+abbrev pub Entry : Type 0
+Entry = Cell
+
+-- the list that a Cells stands for
+abbrev pub listed : Cells → List Cell
+listed c = first (cell 0 0) (c .count) (c .cells)
+
+-- the keys of a list, and its words
+unfoldable pub keysOf : List Cell → List ℕ
+keysOf [] = []
+keysOf (x ∷ xs) = x .key ∷ keysOf xs
+
+unfoldable pub wordsOf : List Cell → List ℕ
+wordsOf [] = []
+wordsOf (x ∷ xs) = x .val ∷ wordsOf xs
