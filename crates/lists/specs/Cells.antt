@@ -12,6 +12,14 @@ cell k a = record { key = k; val = a }
 abbrev pub Entry : Type 0
 Entry = Cell
 
+-- a valve that is set and its word
+abbrev pub Setting : Type 0
+Setting = Cell
+
+-- a place of the index: a valve that is set and the address of its node
+abbrev pub Place : Type 0
+Place = Cell
+
 -- the list that a Cells stands for
 abbrev pub listed : Cells → List Cell
 listed c = first (cell 0 0) (c .count) (c .cells)

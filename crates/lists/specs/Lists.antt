@@ -1,5 +1,6 @@
 -- Tests over lists, scans below a bound, tables, and the list that an array with a count stands for.
-use mathlib.Core.Bool.{Bool, true, false, _&&_}
+use mathlib.Core.Bool.{Bool, true, false, cond, _&&_}
+use mathlib.Core.Option.{Option, none, some}
 use mathlib.Core.List.{List, [], _∷_, _++_}
 use Prim.Native.Nat.{ℕ, zero, suc, _+_, _-_, _<_}
 use lib.ListN.{length, getD, take, replicate}
@@ -13,6 +14,21 @@ all f (x ∷ xs) = f x && all f xs
 unfoldable pub every : List Bool → Bool
 every [] = true
 every (x ∷ xs) = x && every xs
+
+-- the elements of which f holds
+unfoldable pub keep {ℓ} : {A : Type ℓ} → (A → Bool) → List A → List A
+keep f [] = []
+keep f (x ∷ xs) = cond (f x) (x ∷ keep f xs) (keep f xs)
+
+-- whether there is one
+unfoldable pub isSome : {A : Type 0} → Option A → Bool
+isSome none = false
+isSome (some a) = true
+
+-- it, or d
+unfoldable pub valueOr : {A : Type 0} → A → Option A → A
+valueOr d none = d
+valueOr d (some a) = a
 
 -- f holds of each number below n
 unfoldable pub allBelow : ℕ → (ℕ → Bool) → Bool

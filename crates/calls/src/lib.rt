@@ -1,0 +1,1 @@
+// The calls that begin an operation. Definitions only.

@@ -1,0 +1,1 @@
+// What a reading of the journal answers. Definitions only.

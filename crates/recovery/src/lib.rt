@@ -1,0 +1,1 @@
+// Recovery. Definitions only.

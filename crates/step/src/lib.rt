@@ -1,0 +1,1 @@
+// One device step of the pending operation. Definitions only.
