@@ -1,15 +1,17 @@
 -- Laws of tests, scans, tables and counted arrays.
 use mathlib.Core.Path.{_≡_, refl, sym, ap, _∙_}
-use mathlib.Core.Bool.{Bool, true, false, _&&_}
+use mathlib.Core.Bool.{Bool, true, false, not, cond, _&&_, _||_}
 use mathlib.Core.List.{List, [], _∷_, _++_}
 use Prim.Native.Nat.{ℕ, zero, suc, _+_, _-_, _≤_, _<_}
 use native.Mathlib.Omega.{arith}
 use native.Mathlib.Numerals.{add-one}
 use native.Mathlib.Decide.{decLt}
+use borrow.Author.Tests.{not-true}
 use lib.ListN.{length, getD, take, drop, replicate, length-append, length-take, length-replicate, getD-replicate, List·getD-append, List·getD-eq-default}
 use lib.Seq.{getD-drop, getD-take, getD-append-add, getD-append-seam}
 use Rattle.lists.specs.declared.Cell.{Cell}
-use Rattle.lists.specs.Lists.{all, every, allBelow, oneIf, countBelow, table, first, Below}
+use Rattle.lists.specs.Needs.{Need, checked}
+use Rattle.lists.specs.Lists.{keep, all, every, allBelow, oneIf, countBelow, table, first, Below}
 use Rattle.lists.specs.Cells.{cell, keysOf, wordsOf}
 
 -- ---- truth values
@@ -30,6 +32,10 @@ and-r false b h = let z : _≡_ {A = ℕ} 0 1 = cc in absurd (omega arith)
 pub and-both : {a b : Bool} → a ≡ true → b ≡ true → (a && b) ≡ true
 and-both p q = rw (p, q)
 
+pub or-cases : {P : Type 0} (a b : Bool) → (a || b) ≡ true → (a ≡ true → P) → (b ≡ true → P) → P
+or-cases true b h f g = f refl
+or-cases false b h f g = g h
+
 pub true-false : {P : Type 0} {b : Bool} → b ≡ true → b ≡ false → P
 true-false p q = let z : _≡_ {A = ℕ} 0 1 = cc in absurd (omega arith)
 
@@ -43,6 +49,34 @@ module _ {A : Type 0} (f : A → Bool) where
   pub all-tail : (x : A) (xs : List A) → all f (x ∷ xs) ≡ true → all f xs ≡ true
   unfolding all
   all-tail x xs h = and-r (f x) (all f xs) h
+
+  pub all-cons : (x : A) (xs : List A) → f x ≡ true → all f xs ≡ true → all f (x ∷ xs) ≡ true
+  unfolding all
+  all-cons x xs p q = and-both p q
+
+  pub all-append : (xs ys : List A) → all f xs ≡ true → all f ys ≡ true → all f (xs ++ ys) ≡ true
+  all-append [] ys p q = q
+  all-append (x ∷ xs) ys p q = all-cons x (xs ++ ys) (all-head x xs p) (all-append xs ys (all-tail x xs p) q)
+
+  pub all-left : (xs ys : List A) → all f (xs ++ ys) ≡ true → all f xs ≡ true
+  unfolding all
+  all-left [] ys p = refl
+  all-left (x ∷ xs) ys p = all-cons x xs (all-head x (xs ++ ys) p) (all-left xs ys (all-tail x (xs ++ ys) p))
+
+  pub all-right : (xs ys : List A) → all f (xs ++ ys) ≡ true → all f ys ≡ true
+  all-right [] ys p = p
+  all-right (x ∷ xs) ys p = all-right xs ys (all-tail x (xs ++ ys) p)
+
+  pub all-take : (n : ℕ) (xs : List A) → all f xs ≡ true → all f (take n xs) ≡ true
+  unfolding all
+  all-take zero xs p = refl
+  all-take (suc n) [] p = refl
+  all-take (suc n) (x ∷ xs) p = all-cons x (take n xs) (all-head x xs p) (all-take n xs (all-tail x xs p))
+
+  pub all-drop : (n : ℕ) (xs : List A) → all f xs ≡ true → all f (drop n xs) ≡ true
+  all-drop zero xs p = p
+  all-drop (suc n) [] p = p
+  all-drop (suc n) (x ∷ xs) p = all-drop n xs (all-tail x xs p)
 
   pub all-snoc : (xs : List A) (x : A) → all f (xs ++ (x ∷ [])) ≡ (all f xs && f x)
   unfolding all
@@ -67,6 +101,64 @@ module _ {A : Type 0} (f : A → Bool) where
   unfolding table allBelow
   all-table zero g = unfold all in refl
   all-table (suc n) g = all-snoc (table n g) (g n) ∙ ap (λ (b : Bool). b && f (g n)) (all-table n g)
+
+pub all-weaken : {A : Type 0} (f g : A → Bool) → ((x : A) → f x ≡ true → g x ≡ true) → (xs : List A) → all f xs ≡ true → all g xs ≡ true
+unfolding all
+all-weaken f g h [] p = refl
+all-weaken f g h (x ∷ xs) p = and-both (h x (all-head f x xs p)) (all-weaken f g h xs (all-tail f x xs p))
+
+-- ---- the elements of which a test holds
+
+module _ {A : Type 0} (f : A → Bool) where
+  pub keep-append : (xs ys : List A) → keep f (xs ++ ys) ≡ keep f xs ++ keep f ys
+  unfolding keep
+  keep-append [] ys = refl
+  keep-append (x ∷ xs) ys = by-cases (f x) (λ e. rw (e, keep-append xs ys)) (λ e. rw (e, keep-append xs ys))
+
+  pub keep-all : (xs : List A) → all f xs ≡ true → keep f xs ≡ xs
+  unfolding keep
+  keep-all [] p = refl
+  keep-all (x ∷ xs) p = rw (all-head f x xs p, keep-all xs (all-tail f x xs p))
+
+  pub all-keep : (xs : List A) → all f (keep f xs) ≡ true
+  unfolding keep all
+  all-keep [] = refl
+  all-keep (x ∷ xs) = by-cases (f x) (λ e. rw e (all-cons f x (keep f xs) e (all-keep xs))) (λ e. rw e (all-keep xs))
+
+  -- what holds of a list holds of what is kept of it
+  pub keep-all-of : (g : A → Bool) (xs : List A) → all g xs ≡ true → all g (keep f xs) ≡ true
+  unfolding keep all
+  keep-all-of g [] p = refl
+  keep-all-of g (x ∷ xs) p =
+      by-cases (f x) (λ e. rw e (all-cons g x (keep f xs) (all-head g x xs p) (keep-all-of g xs (all-tail g x xs p)))) (λ e. rw e (keep-all-of g xs (all-tail g x xs p)))
+
+-- the opposite test
+unfoldable pub opposite : {A : Type 0} → (A → Bool) → A → Bool
+opposite f x = not (f x)
+
+pub keep-none : {A : Type 0} (f : A → Bool) (xs : List A) → all (opposite f) xs ≡ true → keep f xs ≡ []
+unfolding keep opposite
+keep-none f [] p = refl
+keep-none f (x ∷ xs) p = rw (not-true (f x) (all-head (opposite f) x xs p), keep-none f xs (all-tail (opposite f) x xs p))
+
+-- ---- conditions in order
+
+-- what a list of conditions tests
+unfoldable pub tests : List Need → List Bool
+tests [] = []
+tests (c ∷ cs) = c .holds ∷ tests cs
+
+-- refused with the number of one of them, or passed with every condition met
+pub checked-cases : {A : Type 0} (P : A → Type 0) (refused : ℕ → A) (cs : List Need) (a : A) → ((n : ℕ) → P (refused n)) → (every (tests cs) ≡ true → P a) → P (checked refused cs a)
+unfolding checked tests every
+checked-cases P refused [] a f g = g refl
+checked-cases P refused (c ∷ cs) a f g =
+    by-cases (c .holds) (λ e. rw e (checked-cases P refused cs a f (λ h. g (and-both e h)))) (λ e. rw e (f (c .number)))
+
+pub checked-pass : {A : Type 0} (refused : ℕ → A) (cs : List Need) (a : A) → every (tests cs) ≡ true → checked refused cs a ≡ a
+unfolding checked tests every
+checked-pass refused [] a h = refl
+checked-pass refused (c ∷ cs) a h = rw (and-l (c .holds) (every (tests cs)) h) (checked-pass refused cs a (and-r (c .holds) (every (tests cs)) h))
 
 -- the condition at place i of some that all hold
 pub every-at : (i : ℕ) (bs : List Bool) → every bs ≡ true → getD bs i true ≡ true

@@ -1,0 +1,250 @@
+-- Where the list starts: formatting, begun on any medium of allowed length and finished by its steps, leaves medium, state and an empty
+-- history coupled.
+use mathlib.Core.Path.{_≡_, refl, sym, ap, subst, _∙_}
+use mathlib.Core.Logic.{inl}
+use mathlib.Core.Bool.{true, false, not}
+use mathlib.Core.Option.{Option, some}
+use mathlib.Core.List.{List, [], _∷_}
+use Prim.Native.Nat.{ℕ, zero, suc, _+_, _-_, _*_, _/_, _≤_, _<_}
+use native.Mathlib.Omega.{arith}
+use native.Mathlib.Decide.{decLt}
+use lib.Dec.{ltb}
+use lib.ListN.{length, getD, set, replicate, length-replicate, getD-replicate}
+use borrow.Author.Tests.{ltb-true, ltb-false}
+use Rattle.lists.specs.Lists.{all, every, keep, Bytes}
+use Rattle.lists.specs.Needs.{Need, need, checked}
+use Rattle.lists.proofs.Laws.{by-cases, true-false, every-at, tests, checked-cases}
+use Rattle.codec.specs.Codec.{blank}
+use Rattle.codec.proofs.Put.{length-blank, get-blank, bytes-blank, bytes-put}
+use Rattle.page.specs.Pages.{Page, View, clean, spoilt, whole, page, begins, ends}
+use Rattle.page.specs.Rules.{mayCarry, leastCount, serialOk, lawful}
+use Rattle.page.specs.Layout.{viewOf}
+use Rattle.page.proofs.Written.{Narrow}
+use Rattle.page.proofs.Berger.{guarded-blank, blank-clean}
+use Rattle.flash.specs.Medium.{pageAt, views, seen, programmed, erased}
+use Rattle.flash.proofs.Laws.{seen-views, length-views}
+use Rattle.flash.proofs.Steps.{AllGuarded, page-known, views-same, program-length, program-guarded, program-views, erase-length, erase-outside, erase-inside}
+use Rattle.blocks.specs.Blocks.{sizeOk}
+use Rattle.nodes.specs.Nodes.{sound, words}
+use Rattle.index.specs.Index.{risingFrom, rising}
+use Rattle.state.specs.State.{append, commit, collect, format, Held, isIdle}
+use Rattle.recovery.specs.Recovery.{placed, wholes, allLawful, distinct, insert, sort, goesOn, startsGroup, baseOf, reaches, from, consecutive, group, joined, begun, enter, walk, groupsOf, logOf, pagesOf, enterAll, enterPage, enterPages, Recovery}
+use Rattle.recovery.specs.Recovery
+use Rattle.calls.specs.Calls.{Call, starting, zip, appendOf, commitOf, collectOf, formatting, formatOf}
+use Rattle.step.specs.Step.{Step, formatted, programming, formatStep, due, stepOf, mediumAfter}
+use Rattle.valve_log.specs.History.{start, Told, beganAppend, beganCommit, beganCollect}
+use Rattle.valve_log.specs.Reached.{World, world, withState, stepDue, Event, still, called, stepped, recovered, happen, accepted, finishes, meanwhile, Formatting}
+use Rattle.valve_log.specs.Reached
+use Rattle.valve_log.proofs.Order.{below}
+use Rattle.valve_log.proofs.Index.{valves}
+use Rattle.valve_log.proofs.Small.{small-nil, narrow}
+use Rattle.valve_log.proofs.Sound.{Sound}
+use Rattle.valve_log.proofs.Coupling.{at-rest, alive, Coupled}
+use Rattle.valve_log.proofs.Events.{Upheld, sized}
+
+-- ---- formatting under way: the first k blocks are erased
+
+pub record InFormat (m : List ℕ) (s : Option Held) : Type 0 where
+  pub size : sizeOk (length m) ≡ true
+  pub bytes : Bytes m
+  pub done : ℕ
+  pub few : done ≤ length m / 4096
+  pub state : s ≡ some (starting (formatting (length m / 4096)) (format done))
+  pub blanks : (i : ℕ) → i < 4096 * done → getD m i 0 ≡ 255
+
+begun-is : (n : ℕ) (s : Held) → formatOf n ≡ Call.begun s → (sizeOk n ≡ true) × (s ≡ formatting (n / 4096))
+unfolding formatOf checked
+begun-is n s e =
+    by-cases (sizeOk n)
+    (λ t. let f : Call.begun (formatting (n / 4096)) ≡ Call.begun s = rw t at e in (t, cc))
+    (λ t. let f : Call.refused 1 ≡ Call.begun s = rw t at e in let z : _≡_ {A = ℕ} 0 1 = cc in absurd (omega arith))
+
+not-idle : (k : ℕ) → isIdle (format k) ≡ false
+unfolding isIdle
+not-idle k = refl
+
+-- a call whose third condition, 8, is not met is refused
+busy : (w : World) (t : Told) (a b c : Need) (cs : List Need) (s′ : Held) → c .holds ≡ false → called w t (checked Call.refused (a ∷ b ∷ c ∷ cs) (Call.begun s′)) ≡ still w
+busy w t a b c cs s′ e =
+    checked-cases (λ (r : Call). called w t r ≡ still w) Call.refused (a ∷ b ∷ c ∷ cs) (Call.begun s′) (λ n. unfold called in refl)
+    (λ f. let g : c .holds ≡ true = unfold tests in every-at 2 _ f in true-false g e)
+
+-- ---- one event more
+
+abbrev formatState : ℕ → ℕ → Held
+formatState blocks k = starting (formatting blocks) (format k)
+
+module _ (m : List ℕ) (k : ℕ) (size : sizeOk (length m) ≡ true) (bytes : Bytes m) (few : k ≤ length m / 4096) (blanks : (i : ℕ) → i < 4096 * k → getD m i 0 ≡ 255) where
+  abbrev here : World
+  here = world m (some (formatState (length m / 4096) k))
+
+  same : InFormat m (some (formatState (length m / 4096) k))
+  same = record { size = size; bytes = bytes; done = k; few = few; state = refl; blanks = blanks }
+
+  -- the step erases the next block, or programs the base and finishes
+  one-more : k < length m / 4096 → InFormat (erased m k) (some (starting (formatState (length m / 4096) k) (format (suc k))))
+  one-more h =
+      let there : 4096 * k + 4096 ≤ length m = omega arith in
+      let l = erase-length m k there in
+      record {
+        size = rw l size;
+        bytes = unfold erased in bytes-put m (4096 * k) (blank 4096) bytes (bytes-blank 4096);
+        done = suc k;
+        few = omega arith;
+        state = rw l;
+        blanks = λ i x. go i x there (decLt i (4096 * k));
+      }
+    where
+      go : (i : ℕ) → i < 4096 * suc k → 4096 * k + 4096 ≤ length m → Dec (i < 4096 * k) → getD (erased m k) i 0 ≡ 255
+      go i x there (yes y) = erase-outside m k there i (inl y) ∙ blanks i y
+      go i x there (no y) = let j : 4096 * k + (i - 4096 * k) ≡ i = omega arith in rw j at (erase-inside m k there (i - 4096 * k) (omega arith))
+
+  Keeps : Step → Type 0
+  Keeps st = not (finishes st) ≡ true → InFormat (stepped here st .after .medium) (stepped here st .after .state)
+
+  refused-keeps : (n : ℕ) → Keeps (Step.refused n)
+  unfolding Keeps stepped
+  refused-keeps n f = same
+
+  step-keeps : Keeps (stepOf (length m) (views m) (formatState (length m / 4096) k))
+  unfolding stepOf due formatStep formatting
+  step-keeps =
+      checked-cases Keeps Step.refused _ _ refused-keeps
+      (λ e. by-cases (ltb k (length m / 4096))
+      (λ h. rw h (unfold Keeps stepped mediumAfter in (λ f. one-more (ltb-true k (length m / 4096) h))))
+      (λ h. rw h (unfold programming in checked-cases Keeps Step.refused _ _ refused-keeps (λ g. unfold Keeps finishes in (λ f. true-false f refl)))))
+
+  recover-keeps : (r : Recovery) → not (accepted r) ≡ true → InFormat (recovered here r .after .medium) (recovered here r .after .state)
+  unfolding accepted recovered
+  recover-keeps (Recovery.refused n) e = same
+  recover-keeps (Recovery.recovered log s) e = true-false e refl
+
+  event-keeps : (e : Event here) → meanwhile here e ≡ true → InFormat (happen here e .after .medium) (happen here e .after .state)
+  unfolding happen meanwhile withState stepDue
+  event-keeps (Event.append ks ws a b) f = unfold appendOf in rw (busy here (beganAppend (zip ks ws)) _ _ (need 8 (isIdle (format k))) _ _ (not-idle k)) same
+  event-keeps Event.commit f = unfold commitOf in rw (busy here beganCommit _ _ (need 8 (isIdle (format k))) _ _ (not-idle k)) same
+  event-keeps (Event.collect b) f = unfold collectOf in rw (busy here beganCollect _ _ (need 8 (isIdle (format k))) _ _ (not-idle k)) same
+  event-keeps Event.step f = unfold Keeps in step-keeps f
+  event-keeps Event.recover f = recover-keeps (Recovery.recover (length m) (views m)) f
+  event-keeps Event.read f = same
+  event-keeps Event.cut f = true-false f refl
+  event-keeps (Event.cutInside left c) f = true-false f refl
+
+abbrev Stays : List ℕ → Option Held → Type 0
+Stays m s = (e : Event (world m s)) → meanwhile (world m s) e ≡ true → InFormat (happen (world m s) e .after .medium) (happen (world m s) e .after .state)
+
+keeps : (m : List ℕ) (s : Option Held) → InFormat m s → Stays m s
+keeps m s I = subst (Stays m) (sym (I .state)) (event-keeps m (I .done) (I .size) (I .bytes) (I .few) (I .blanks))
+
+pub in-format : (w : World) → Formatting w → InFormat (w .medium) (w .state)
+in-format w (Formatting.begun m s b e) =
+    let q = begun-is (length m) s e in
+    record { size = q .0; bytes = b; done = 0; few = omega arith; state = rw (q .1) (unfold formatting in refl); blanks = λ i h. absurd (omega arith) }
+in-format w (Formatting.next v e F k) = keeps (v .medium) (v .state) (in-format v F) e k
+
+-- ---- formatting finished
+
+abbrev basePage : Page
+basePage = page 2 3 1 []
+
+wholes-clean : (n k : ℕ) → wholes n (replicate k clean) ≡ []
+unfolding wholes
+wholes-clean n zero = refl
+wholes-clean n (suc k) = wholes-clean (suc n) k
+
+wholes-start : (k : ℕ) → wholes 0 (whole basePage ∷ replicate k clean) ≡ placed 0 basePage ∷ []
+unfolding wholes
+wholes-start k = rw (wholes-clean 1 k)
+
+start-sound : (k : ℕ) → Sound (whole basePage ∷ replicate k clean) [] [] 1 (placed 0 basePage ∷ []) (group 2 (placed 0 basePage ∷ []) ∷ []) []
+start-sound k =
+    record {
+      lawfuls = rw (wholes-start k) (unfold allLawful all lawful every leastCount mayCarry serialOk in refl);
+      distincts = rw (wholes-start k) (unfold distinct all in refl);
+      bound = rw (wholes-start k) (unfold all below in refl);
+      some-page = omega arith;
+      chained = rw (wholes-start k) (unfold from keep reaches sort insert in refl);
+      rises = unfold consecutive in refl;
+      based = unfold baseOf startsGroup goesOn begins ends every Rattle.lists.specs.Lists.isSome in refl;
+      walks = unfold walk enter begun joined begins ends groupsOf in refl;
+      replays = unfold pagesOf enterPages enterPage enterAll in refl;
+      logs = unfold logOf in refl;
+      sounds = unfold sound all in refl;
+      shows = unfold words in refl;
+      tidy = record { rise = unfold rising risingFrom in refl; valve = unfold valves all in refl; count = omega arith };
+    }
+
+pub start-coupled : (blocks k : ℕ) → Coupled (whole basePage ∷ replicate k clean) (some (formatted blocks)) start
+unfolding formatted
+start-coupled blocks k =
+    record {
+      b = 1;
+      ch = placed 0 basePage ∷ [];
+      gs = group 2 (placed 0 basePage ∷ []) ∷ [];
+      idx = [];
+      medium = start-sound k;
+      memory = alive (record { serials = refl; bases = refl; indices = refl; pends = at-rest });
+    }
+
+-- the step that finishes: all blocks are erased, and the base goes to page 0
+module _ (m : List ℕ) (k : ℕ) (size : sizeOk (length m) ≡ true) (bytes : Bytes m) (few : k ≤ length m / 4096) (blanks : (i : ℕ) → i < 4096 * k → getD m i 0 ≡ 255) where
+  Ends : Step → Type 0
+  Ends st = finishes st ≡ true → Upheld (stepped (here m k size bytes few blanks) st .after) start
+
+  refused-ends : (n : ℕ) → Ends (Step.refused n)
+  unfolding Ends finishes
+  refused-ends n f = true-false f refl
+
+  module _ (all-done : length m / 4096 ≤ k) where
+    blank-page : (p : ℕ) → 256 * p + 256 ≤ length m → pageAt m p ≡ blank 256
+    blank-page p h =
+        let S = sized (length m) size in
+        page-known m p (blank 256) h (length-blank 256) (λ i x. blanks (256 * p + i) (omega (arith, S .even)) ∙ sym (get-blank 256 i 0 x))
+
+    guarded : AllGuarded m
+    guarded = record { bytes = bytes; pages = λ p h. rw (blank-page p h) guarded-blank }
+
+    pages : ℕ
+    pages = length m / 256
+
+    views-clean : views m ≡ replicate (length m / 256) clean
+    views-clean =
+        let r = length-replicate {A = View} (length m / 256) clean in
+        views-same (views m) (replicate (length m / 256) clean) (length-views m ∙ sym r)
+        (λ p h. seen-views m p ∙ ap viewOf (blank-page p (omega (arith, length-views m))) ∙ blank-clean ∙ sym (unfold seen in getD-replicate {A = View} (length m / 256) p clean spoilt (omega (arith, length-views m))))
+
+    base-lawful : lawful basePage ≡ true
+    unfolding lawful all every leastCount mayCarry serialOk
+    base-lawful = refl
+
+    base-narrow : Narrow basePage
+    base-narrow = narrow basePage base-lawful (omega arith) small-nil
+
+    page-there : 256 * 0 + 256 ≤ length m
+    page-there = let S = sized (length m) size in omega (arith, S .low)
+
+    finished : Upheld (world (programmed m 0 basePage) (some (formatted (length m / 4096)))) start
+    finished =
+        record {
+          size = rw (program-length m 0 basePage page-there (omega arith)) size;
+          guarded = program-guarded m 0 basePage page-there (omega arith) guarded;
+          coupled = rw (program-views m 0 basePage page-there base-narrow, views-clean) (first (length m / 256) (let S = sized (length m) size in omega (arith, S .low)));
+        }
+      where
+        first : (n : ℕ) → 1 ≤ n → Coupled (set (replicate n clean) 0 (whole basePage)) (some (formatted (length m / 4096))) start
+        first zero h = absurd (omega arith)
+        first (suc n) h = start-coupled (length m / 4096) n
+
+  step-ends : Ends (stepOf (length m) (views m) (formatState (length m / 4096) k))
+  unfolding stepOf due formatStep formatting
+  step-ends =
+      checked-cases Ends Step.refused _ _ refused-ends
+      (λ e. by-cases (ltb k (length m / 4096))
+      (λ h. rw h (unfold Ends finishes in (λ f. true-false f refl)))
+      (λ h. rw h (unfold programming in checked-cases Ends Step.refused _ _ refused-ends (λ g. unfold Ends stepped mediumAfter in (λ f. finished (ltb-false k (length m / 4096) h))))))
+
+abbrev Starts : List ℕ → Option Held → Type 0
+Starts m s = finishes (stepDue (world m s)) ≡ true → Upheld (happen (world m s) Event.step .after) start
+
+pub starts : (m : List ℕ) (s : Option Held) → InFormat m s → Starts m s
+starts m s I = subst (Starts m) (sym (I .state)) (unfold happen stepDue withState Ends in step-ends m (I .done) (I .size) (I .bytes) (I .few) (I .blanks))

@@ -1,0 +1,14 @@
+pub mod Order
+pub mod Index
+pub mod Views
+pub mod Present
+pub mod Groups
+pub mod Replay
+pub mod Small
+pub mod Sound
+pub mod Coupling
+pub mod Steps
+pub mod Due
+pub mod Events
+pub mod Formats
+pub mod Point3
