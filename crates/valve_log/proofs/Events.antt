@@ -159,7 +159,7 @@ same-refl (x ∷ xs) = and-both (eq-eqb x x refl) (same-refl xs)
 module _ (m : List ℕ) (s : Held) (h : History) (U : Upheld (world m (some s)) h) where
   -- a page programmed
   module _ (p : ℕ) (pg : Page) (s′ : Held) (P : Programs (views m) s h p pg s′) where
-    there : 256 * p + 256 ≤ length m
+    pub there : 256 * p + 256 ≤ length m
     there = omega (arith, clean-in (views m) p (P .cleans), length-views m)
 
     few : length (pg .entries) ≤ 24
@@ -223,7 +223,7 @@ module _ (m : List ℕ) (s : Held) (h : History) (U : Upheld (world m (some s)) 
     block-there : 4096 * b + 4096 ≤ length m
     block-there = omega (arith, E .inside, length-views m)
 
-    erase-cut : CutViews (views m) (16 * b) 16 (views m) (views (erased m b))
+    pub erase-cut : CutViews (views m) (16 * b) 16 (views m) (views (erased m b))
     erase-cut = rw (erase-views m b block-there)
         (record {
           size = length-cleaned (views m) (16 * b) 16 (E .inside);
@@ -255,7 +255,7 @@ module _ (m : List ℕ) (s : Held) (h : History) (U : Upheld (world m (some s)) 
   cut-goes (Step.program p pg s′ finished) G left c = cut-program-upheld p pg s′ G left c (sameBytes left (programmed m p pg)) refl
   cut-goes (Step.erase b s′ finished) G left c = unfold tell in cut-erase-upheld b s′ G left c
 
-  due-good : Good (views m) s h (stepOf (length m) (views m) s)
+  pub due-good : Good (views m) s h (stepOf (length m) (views m) s)
   due-good = step-good (length m) (views m) s h (words-small m (U .guarded .bytes)) (few-views m (U .size)) (U .coupled)
 
 -- ---- any event

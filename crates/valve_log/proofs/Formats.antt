@@ -144,7 +144,7 @@ in-format w (Formatting.next v e F k) = keeps (v .medium) (v .state) (in-format 
 
 -- ---- formatting finished
 
-abbrev basePage : Page
+abbrev pub basePage : Page
 basePage = page 2 3 1 []
 
 wholes-clean : (n k : ℕ) → wholes n (replicate k clean) ≡ []
@@ -186,10 +186,17 @@ start-coupled blocks k =
       memory = alive (record { serials = refl; bases = refl; indices = refl; pends = at-rest });
     }
 
+-- where the list starts
+pub record Begins (w : World) : Type 0 where
+  pub upheld : Upheld w start
+  pub pages : ℕ
+  pub sees : views (w .medium) ≡ whole basePage ∷ replicate pages clean
+  pub holds : w .state ≡ some (formatted (length (w .medium) / 4096))
+
 -- the step that finishes: all blocks are erased, and the base goes to page 0
 module _ (m : List ℕ) (k : ℕ) (size : sizeOk (length m) ≡ true) (bytes : Bytes m) (few : k ≤ length m / 4096) (blanks : (i : ℕ) → i < 4096 * k → getD m i 0 ≡ 255) where
   Ends : Step → Type 0
-  Ends st = finishes st ≡ true → Upheld (stepped (here m k size bytes few blanks) st .after) start
+  Ends st = finishes st ≡ true → Begins (stepped (here m k size bytes few blanks) st .after)
 
   refused-ends : (n : ℕ) → Ends (Step.refused n)
   unfolding Ends finishes
@@ -223,17 +230,31 @@ module _ (m : List ℕ) (k : ℕ) (size : sizeOk (length m) ≡ true) (bytes : B
     page-there : 256 * 0 + 256 ≤ length m
     page-there = let S = sized (length m) size in omega (arith, S .low)
 
-    finished : Upheld (world (programmed m 0 basePage) (some (formatted (length m / 4096)))) start
+    length-after : length (programmed m 0 basePage) ≡ length m
+    length-after = program-length m 0 basePage page-there (omega arith)
+
+    some-views : (n : ℕ) → 1 ≤ n → set (replicate n clean) 0 (whole basePage) ≡ whole basePage ∷ replicate (n - 1) clean
+    some-views zero h = absurd (omega arith)
+    some-views (suc n) h = let z : suc n - 1 ≡ n = omega arith in rw z
+
+    views-after : views (programmed m 0 basePage) ≡ whole basePage ∷ replicate (length m / 256 - 1) clean
+    views-after =
+        let S = sized (length m) size in
+        program-views m 0 basePage page-there base-narrow ∙ ap (λ (v : List View). set v 0 (whole basePage)) views-clean ∙ some-views (length m / 256) (omega (arith, S .low))
+
+    finished : Begins (world (programmed m 0 basePage) (some (formatted (length m / 4096))))
     finished =
         record {
-          size = rw (program-length m 0 basePage page-there (omega arith)) size;
-          guarded = program-guarded m 0 basePage page-there (omega arith) guarded;
-          coupled = rw (program-views m 0 basePage page-there base-narrow, views-clean) (first (length m / 256) (let S = sized (length m) size in omega (arith, S .low)));
+          upheld =
+              record {
+                size = rw length-after size;
+                guarded = program-guarded m 0 basePage page-there (omega arith) guarded;
+                coupled = rw views-after (start-coupled (length m / 4096) (length m / 256 - 1));
+              };
+          pages = length m / 256 - 1;
+          sees = views-after;
+          holds = rw length-after;
         }
-      where
-        first : (n : ℕ) → 1 ≤ n → Coupled (set (replicate n clean) 0 (whole basePage)) (some (formatted (length m / 4096))) start
-        first zero h = absurd (omega arith)
-        first (suc n) h = start-coupled (length m / 4096) n
 
   step-ends : Ends (stepOf (length m) (views m) (formatState (length m / 4096) k))
   unfolding stepOf due formatStep formatting
@@ -244,7 +265,7 @@ module _ (m : List ℕ) (k : ℕ) (size : sizeOk (length m) ≡ true) (bytes : B
       (λ h. rw h (unfold programming in checked-cases Ends Step.refused _ _ refused-ends (λ g. unfold Ends stepped mediumAfter in (λ f. finished (ltb-false k (length m / 4096) h))))))
 
 abbrev Starts : List ℕ → Option Held → Type 0
-Starts m s = finishes (stepDue (world m s)) ≡ true → Upheld (happen (world m s) Event.step .after) start
+Starts m s = finishes (stepDue (world m s)) ≡ true → Begins (happen (world m s) Event.step .after)
 
 pub starts : (m : List ℕ) (s : Option Held) → InFormat m s → Starts m s
 starts m s I = subst (Starts m) (sym (I .state)) (unfold happen stepDue withState Ends in step-ends m (I .done) (I .size) (I .bytes) (I .few) (I .blanks))

@@ -1,5 +1,6 @@
 pub mod Order
 pub mod Index
+pub mod Moves
 pub mod Views
 pub mod Present
 pub mod Groups
@@ -12,3 +13,7 @@ pub mod Due
 pub mod Events
 pub mod Formats
 pub mod Point3
+pub mod Supply
+pub mod Ready
+pub mod Steady
+pub mod Quiet

@@ -1,2 +1,4 @@
 pub mod History
 pub mod Reached
+pub mod Steady
+pub mod Quiet

@@ -1,0 +1,332 @@
+-- On a reached medium, with the state last handed back, no call answers 1, 6, 7 or 16.
+use mathlib.Core.Path.{_≡_, refl, ap, _∙_}
+use mathlib.Core.Bool.{Bool, true, false}
+use mathlib.Core.Option.{Option, none, some}
+use mathlib.Core.List.{List, [], _∷_, _++_}
+use Prim.Native.Nat.{ℕ, zero, suc, _+_, _-_, _*_, _/_, _%_, _≤_, _<_}
+use native.Mathlib.Omega.{arith}
+use lib.Dec.{ltb, eqb}
+use lib.ListN.{length, replicate, length-append, length-replicate, getD-replicate}
+use borrow.Author.Tests.{leb-true, le-leb, ltb-true, lt-ltb, eqb-true}
+use Rattle.lists.specs.declared.Cell.{Cell}
+use Rattle.lists.specs.Lists.{all, every, isSome, valueOr}
+use Rattle.lists.specs.Needs.{Need, checked}
+use Rattle.lists.specs.Cells.{cell, Place}
+use Rattle.lists.proofs.Laws.{by-cases, true-false, every-at, all-head, all-tail, tests, checked-cases}
+use Rattle.page.specs.Pages.{View, clean, spoilt, whole, isClean, pagesFor}
+use Rattle.flash.specs.Medium.{views, seen, erased}
+use Rattle.flash.proofs.Laws.{length-views}
+use Rattle.flash.proofs.Steps.{program-views}
+use Rattle.index.specs.Index.{within, removalsOk, lookup}
+use Rattle.blocks.specs.Blocks.{available}
+use Rattle.nodes.specs.Nodes.{wordAt, sound, live, pickBelow}
+use Rattle.state.specs.State.{Pending, append, commit, collect, Held, groupOk, basePages, pendingFit, fit}
+use Rattle.recovery.specs.Recovery.{Placed, wholes, sort, lastOf, noPage, Recovery}
+use Rattle.recovery.specs.Recovery
+use Rattle.readings.specs.Readings.{Opening, placeOf, openingNeeds, openingOf, Pick, pickedBlock, stateNeeds, pickOf, Survey, surveyOf}
+use Rattle.calls.specs.Calls.{Call, starting, zip, listsOk, roomFor, appendNeeds, appendOf, commitNeeds, commitOf, collectNeeds, collectOf}
+use Rattle.step.specs.Step.{Step, formatted, stepOf, mediumAfter}
+use Rattle.valve_log.specs.History.{History, Told, beganAppend, beganCommit, beganCollect}
+use Rattle.valve_log.specs.Reached.{World, world, withState, stepDue, Event, called, stepped, cutShort, recovered, happen, Reached}
+use Rattle.valve_log.specs.Steady.{expected, Answers, Steady}
+use Rattle.valve_log.proofs.Order.{all-sort, upto, sort-split}
+use Rattle.valve_log.proofs.Index.{In, first, later, in-live, all-in}
+use Rattle.valve_log.proofs.Sound.{outcome, accepts}
+use Rattle.valve_log.proofs.Coupling.{alive-of, Coupled}
+use Rattle.valve_log.proofs.Due.{Good}
+use Rattle.valve_log.proofs.Events.{Upheld, Sized, sized, there, erase-cut, due-good}
+use Rattle.valve_log.proofs.Formats.{Begins, basePage, in-format, starts}
+use Rattle.valve_log.proofs.Point3.{reached-upheld}
+use Rattle.valve_log.proofs.Ready.{Left, Ready, fit-ready, sound-part, fit-append, fit-commit, left-append, left-commit, left-collect, StepReady, step-ready}
+
+-- a state that is there is ready
+unfoldable pub StateReady : List View → Option Held → Type 0
+StateReady v none = Unit {0}
+StateReady v (some s) = Ready v s
+
+-- ---- operations begun
+
+zip-length : (ks ws : List ℕ) → length ks ≡ length ws → length (zip ks ws) ≡ length ks
+unfolding zip
+zip-length [] ws e = refl
+zip-length (k ∷ ks) [] e = absurd (omega arith)
+zip-length (k ∷ ks) (w ∷ ws) e = ap suc (zip-length ks ws (omega arith))
+
+module _ (n : ℕ) (v : List View) (s : Held) (h : History) (c : Coupled v (some s) h) (r : Ready v s) where
+  begun-ready : (pend : Pending) → pendingFit v (s .head) (s .index) pend ≡ true → Left v (s .head) (s .index) pend → Ready v (starting s pend)
+  begun-ready pend f l = record { size = r .size; heads = r .heads; pend = f; left = l }
+
+  serial-one : 1 ≤ s .head .serial
+  serial-one = omega (arith, alive-of (c .memory) .serials, c .medium .some-page)
+
+  append-begun : (ks ws : List ℕ) → every (tests (appendNeeds n v s ks ws)) ≡ true → Ready v (starting s (append (zip ks ws) []))
+  unfolding tests
+  append-begun ks ws e =
+      let lists = every-at 3 _ e in
+      let z = zip-length ks ws (eqb-true (length ks) (length ws) (unfold listsOk in every-at 0 _ lists)) in
+      let low : 1 ≤ length ks = leb-true 1 (length ks) (unfold listsOk in every-at 1 _ lists) in
+      let high : length ks ≤ 96 = leb-true (length ks) 96 (unfold listsOk in every-at 2 _ lists) in
+      let room : pagesFor (length ks) + 16 ≤ available v (s .head) = leb-true (pagesFor (length ks) + 16) (available v (s .head)) (unfold roomFor in every-at 6 _ e) in
+      begun-ready (append (zip ks ws) [])
+      (fit-append v (s .head) (s .index) (zip ks ws) [] (ok (omega arith) (omega arith) (every-at 4 _ e) (every-at 5 _ e)) serial-one (some-page (omega arith)))
+      (left-append v (s .head) (s .index) (zip ks ws) [] (rw z (omega arith)))
+    where
+      ok : 1 ≤ length (zip ks ws) → length (zip ks ws) ≤ 96 → removalsOk (zip ks ws) ≡ true → within (s .index) (zip ks ws) ≡ true → groupOk (s .index) (zip ks ws) ≡ true
+      ok a b p q = unfold groupOk every in rw (le-leb 1 (length (zip ks ws)) a, le-leb (length (zip ks ws)) 96 b, p, q)
+
+      some-page : 1 ≤ length (zip ks ws) → 0 < pagesFor (length (zip ks ws))
+      some-page a = unfold pagesFor in omega arith
+
+  commit-begun : every (tests (commitNeeds n v s)) ≡ true → Ready v (starting s (commit 0))
+  unfolding tests
+  commit-begun e =
+      let room : basePages (length (s .index)) ≤ available v (s .head) = leb-true (basePages (length (s .index))) (available v (s .head)) (unfold roomFor in every-at 3 _ e) in
+      begun-ready (commit 0) (fit-commit v (s .head) (s .index) 0 serial-one (unfold basePages in omega arith)) (left-commit v (s .head) (s .index) 0 (omega arith))
+
+  collect-begun : (b : ℕ) → every (tests (collectNeeds n v s b)) ≡ true → Ready v (starting s (collect b))
+  unfolding tests
+  collect-begun b e =
+      let room : pagesFor (length (live (s .index) b)) ≤ available v (s .head) = leb-true (pagesFor (length (live (s .index) b))) (available v (s .head)) (unfold roomFor in every-at 5 _ e) in
+      begun-ready (collect b) (unfold pendingFit in every-at 3 _ e) (left-collect v (s .head) (s .index) b room)
+
+-- ---- recovery's state
+
+wholes-inside : (n : ℕ) (v : List View) → all (λ x. ltb (x .at) (n + length v)) (wholes n v) ≡ true
+unfolding wholes all
+wholes-inside n [] = refl
+wholes-inside n (clean ∷ v) = let z : n + suc (length v) ≡ suc n + length v = omega arith in rw z (wholes-inside (suc n) v)
+wholes-inside n (spoilt ∷ v) = let z : n + suc (length v) ≡ suc n + length v = omega arith in rw z (wholes-inside (suc n) v)
+wholes-inside n (whole pg ∷ v) = let z : n + suc (length v) ≡ suc n + length v = omega arith in rw (z, lt-ltb n (suc n + length v) (omega arith)) (wholes-inside (suc n) v)
+
+all-last : (f : Placed → Bool) (d : Placed) (l : List Placed) → 1 ≤ length l → all f l ≡ true → f (lastOf d l) ≡ true
+unfolding lastOf
+all-last f d [] h a = absurd (omega arith)
+all-last f d (x ∷ []) h a = all-head f x [] a
+all-last f d (x ∷ y ∷ l) h a = all-last f x (y ∷ l) (omega arith) (all-tail f x (y ∷ l) a)
+
+recovered-ready : {v : List View} {s : Option Held} {h : History} (c : Coupled v s h) → length v % 16 ≡ 0 → 64 ≤ length v → Ready v (outcome (c .medium))
+recovered-ready {v} c even low =
+    unfold outcome in
+    record {
+      size = omega arith;
+      heads = record { inside = omega (arith, newest); low = omega arith; high = omega arith; tail = λ i a b. absurd (omega arith) };
+      pend = unfold pendingFit in refl;
+      left = unfold Left in tt;
+    }
+  where
+    some-page : 1 ≤ length (sort (wholes 0 v))
+    some-page =
+        let M = c .medium in
+        let p : sort (wholes 0 v) ≡ sort (upto (c .b) (wholes 0 v)) ++ c .ch = sort-split (c .b) (wholes 0 v) ∙ ap (λ (l : List Placed). sort (upto (c .b) (wholes 0 v)) ++ l) (M .chained) in
+        omega (arith, ap length p, length-append (sort (upto (c .b) (wholes 0 v))) (c .ch), M .some-page)
+
+    newest : lastOf noPage (sort (wholes 0 v)) .at < length v
+    newest =
+        let a = all-last (λ (x : Placed). ltb (x .at) (0 + length v)) noPage (sort (wholes 0 v)) some-page (all-sort (λ (x : Placed). ltb (x .at) (0 + length v)) (wholes 0 v) (wholes-inside 0 v)) in
+        let b : lastOf noPage (sort (wholes 0 v)) .at < 0 + length v = ltb-true (lastOf noPage (sort (wholes 0 v)) .at) (0 + length v) a in
+        omega arith
+
+-- ---- where the list starts
+
+starts-ready : (w : World) → Begins w → StateReady (views (w .medium)) (w .state)
+starts-ready w B = rw (B .holds) (unfold StateReady in ready)
+  where
+    S : Sized (length (w .medium))
+    S = sized (length (w .medium)) (B .upheld .size)
+
+    n : length (views (w .medium)) ≡ suc (B .pages)
+    n = ap length (B .sees) ∙ ap suc (length-replicate {A = View} (B .pages) clean)
+
+    tail-clean : (i : ℕ) → 1 ≤ i → i < suc (B .pages) → isClean (seen (whole basePage ∷ replicate (B .pages) clean) i) ≡ true
+    tail-clean zero a b = absurd (omega arith)
+    tail-clean (suc i) a b = unfold seen in rw (getD-replicate {A = View} (B .pages) i clean spoilt (omega arith)) (unfold isClean in refl)
+
+    many : (i : ℕ) → i < 16 → i < suc (B .pages)
+    many i b = omega (arith, n, length-views (w .medium), S .low)
+
+    ready : Ready (views (w .medium)) (formatted (length (w .medium) / 4096))
+    ready =
+        let l = length-views (w .medium) in
+        let e = S .even in
+        let o = S .low in
+        unfold formatted in
+        record {
+          size = omega arith;
+          heads = record { inside = omega arith; low = omega arith; high = omega arith; tail = λ i a b. let z : 16 * 0 + i ≡ i = omega arith in rw (z, B .sees) (tail-clean i a (many i b)) };
+          pend = unfold pendingFit in refl;
+          left = unfold Left in tt;
+        }
+
+-- ---- any event
+
+module _ (m : List ℕ) (s : Held) (h : History) (U : Upheld (world m (some s)) h) (r : Ready (views m) s) where
+  call-ready : (t : Told) (cs : List Need) (s′ : Held) → (every (tests cs) ≡ true → Ready (views m) s′) → StateReady (views (called (world m (some s)) t (checked Call.refused cs (Call.begun s′)) .after .medium)) (called (world m (some s)) t (checked Call.refused cs (Call.begun s′)) .after .state)
+  call-ready t cs s′ f =
+      checked-cases (λ (c : Call). StateReady (views (called (world m (some s)) t c .after .medium)) (called (world m (some s)) t c .after .state)) Call.refused cs (Call.begun s′)
+      (λ n. unfold called StateReady in r) (λ e. unfold called StateReady in f e)
+
+  stepped-ready : (st : Step) → Good (views m) s h st → StepReady (views m) st → StateReady (views (stepped (world m (some s)) st .after .medium)) (stepped (world m (some s)) st .after .state)
+  unfolding stepped mediumAfter Good StepReady StateReady
+  stepped-ready (Step.refused n) G R = r
+  stepped-ready (Step.program p pg s′ finished) G R = rw (program-views m p pg (there m s h U p pg s′ G) (G .fits-in)) R
+  stepped-ready (Step.erase b s′ finished) G R = R (views (erased m b)) (erase-cut m s h U b s′ G)
+
+recover-ready : (m : List ℕ) (s : Option Held) (h : History) → Upheld (world m s) h → StateReady (views (recovered (world m s) (Recovery.recover (length m) (views m)) .after .medium)) (recovered (world m s) (Recovery.recover (length m) (views m)) .after .state)
+unfolding recovered StateReady
+recover-ready m s h U = rw (accepts (U .coupled .medium) (length m) (U .size)) (recovered-ready (U .coupled) even low)
+  where
+    S : Sized (length m)
+    S = sized (length m) (U .size)
+
+    even : length (views m) % 16 ≡ 0
+    even = omega (arith, length-views m, S .even)
+
+    low : 64 ≤ length (views m)
+    low = omega (arith, length-views m, S .low)
+
+cut-ready : (w : World) (left : List ℕ) (st : Step) → StateReady (views (cutShort w left st .after .medium)) (cutShort w left st .after .state)
+unfolding cutShort StateReady
+cut-ready w left (Step.refused n) = tt
+cut-ready w left (Step.program p pg s finished) = tt
+cut-ready w left (Step.erase b s finished) = tt
+
+event-ready : (m : List ℕ) (s : Option Held) (h : History) (e : Event (world m s)) → Upheld (world m s) h → StateReady (views m) s → StateReady (views (happen (world m s) e .after .medium)) (happen (world m s) e .after .state)
+unfolding happen withState stepDue
+event-ready m none h (Event.append ks ws a b) U r = r
+event-ready m (some s) h (Event.append ks ws a b) U r = unfold appendOf StateReady in call-ready m s h U r (beganAppend (zip ks ws)) (appendNeeds (length m) (views m) s ks ws) (starting s (append (zip ks ws) [])) (append-begun (length m) (views m) s h (U .coupled) r ks ws)
+event-ready m none h Event.commit U r = r
+event-ready m (some s) h Event.commit U r = unfold commitOf StateReady in call-ready m s h U r beganCommit (commitNeeds (length m) (views m) s) (starting s (commit 0)) (commit-begun (length m) (views m) s h (U .coupled) r)
+event-ready m none h (Event.collect b) U r = r
+event-ready m (some s) h (Event.collect b) U r = unfold collectOf StateReady in call-ready m s h U r beganCollect (collectNeeds (length m) (views m) s b) (starting s (collect b)) (collect-begun (length m) (views m) s h (U .coupled) r b)
+event-ready m none h Event.step U r = unfold stepped in r
+event-ready m (some s) h Event.step U r = unfold StateReady in stepped-ready m s h U r (stepOf (length m) (views m) s) (due-good m s h U) (step-ready (views m) s h (U .coupled) r (length m) (U .size))
+event-ready m s h Event.recover U r = recover-ready m s h U
+event-ready m s h Event.read U r = r
+event-ready m s h Event.cut U r = unfold StateReady in tt
+event-ready m s h (Event.cutInside left c) U r = cut-ready (world m s) left (stepDue (world m s))
+
+pub reached-ready : (w : World) (h : History) → Reached w h → StateReady (views (w .medium)) (w .state)
+reached-ready w h (Reached.start v F e) = starts-ready (happen v Event.step .after) (starts (v .medium) (v .state) (in-format v F) e)
+reached-ready w h (Reached.next v g e r) = event-ready (v .medium) (v .state) g e (reached-upheld v g r) (reached-ready v g r)
+
+-- ---- what the calls answer
+
+-- each of some conditions is met, or has an expected number
+data Fair : List Need → Type 0 where
+  end : Fair []
+  met : {c : Need} {cs : List Need} → c .holds ≡ true → Fair cs → Fair (c ∷ cs)
+  may : {c : Need} {cs : List Need} → expected (c .number) ≡ true → Fair cs → Fair (c ∷ cs)
+
+fair : {A : Type 0} (P : A → Type 0) (refused : ℕ → A) (a : A) (cs : List Need) → Fair cs → ((n : ℕ) → expected n ≡ true → P (refused n)) → P a → P (checked refused cs a)
+unfolding checked
+fair P refused a cs end f p = p
+fair P refused a cs (met {c = c} {cs = ds} e r) f p = rw e (fair P refused a ds r f p)
+fair P refused a cs (may {c = c} {cs = ds} e r) f p = by-cases (c .holds) (λ h. rw h (fair P refused a ds r f p)) (λ h. rw h (f (c .number) e))
+
+-- a refusal has its number alone
+call-number : (a b : ℕ) → Call.refused a ≡ Call.refused b → a ≡ b
+call-number a b e = cc
+
+call-fair : (cs : List Need) (s′ : Held) → Fair cs → (n : ℕ) → checked Call.refused cs (Call.begun s′) ≡ Call.refused n → expected n ≡ true
+call-fair cs s′ F =
+    fair (λ (c : Call). (n : ℕ) → c ≡ Call.refused n → expected n ≡ true) Call.refused (Call.begun s′) cs F (λ k e n q. rw (call-number k n q) at e)
+    (λ n q. let z : _≡_ {A = ℕ} 0 1 = cc in absurd (omega arith))
+
+-- a valve that is set has a place in the index
+in-lookup : (valve : ℕ) (l : List Place) → isSome (lookup valve l) ≡ true → In (cell valve (valueOr 0 (lookup valve l))) l
+unfolding lookup isSome valueOr
+in-lookup valve [] e = absurd (true-false e refl)
+in-lookup valve (x ∷ l) e =
+    by-cases (ltb valve (x .key)) (λ a. true-false e (rw a))
+    (λ a. by-cases (eqb valve (x .key)) (λ b. rw (a, b) (here (eqb-true valve (x .key) b))) (λ b. rw (a, b) (later (in-lookup valve l (rw (a, b) at e)))))
+  where
+    here : valve ≡ x .key → In (cell valve (x .val)) (x ∷ l)
+    here q = rw q first
+
+module _ (m : List ℕ) (s : Held) (h : History) (U : Upheld (world m (some s)) h) (r : Ready (views m) s) where
+  abbrev v : List View
+  v = views m
+
+  fits : fit v s ≡ true
+  fits = fit-ready v s h (U .coupled) r
+
+  index-sound : sound v (s .index) ≡ true
+  index-sound = ap (sound v) (alive-of (U .coupled .memory) .indices) ∙ U .coupled .medium .sounds
+
+  append-answers : (ks ws : List ℕ) (n : ℕ) → appendOf (length m) v s ks ws ≡ Call.refused n → expected n ≡ true
+  unfolding appendOf expected every
+  append-answers ks ws = call-fair (appendNeeds (length m) v s ks ws) (starting s (append (zip ks ws) [])) (met (U .size) (met fits (may refl (may refl (may refl (may refl (may refl (may refl end))))))))
+
+  commit-answers : (n : ℕ) → commitOf (length m) v s ≡ Call.refused n → expected n ≡ true
+  unfolding commitOf expected every
+  commit-answers = call-fair (commitNeeds (length m) v s) (starting s (commit 0)) (met (U .size) (met fits (may refl (may refl (may refl end)))))
+
+  collect-answers : (b n : ℕ) → collectOf (length m) v s b ≡ Call.refused n → expected n ≡ true
+  unfolding collectOf expected every
+  collect-answers b =
+      call-fair (collectNeeds (length m) v s b) (starting s (collect b))
+      (met (U .size) (met fits (may refl (may refl (met (sound-part v (s .index) (live (s .index) b) index-sound (λ x i. in-live (s .index) b i)) (may refl (may refl end)))))))
+
+  step-answers : (n : ℕ) → stepOf (length m) v s ≡ Step.refused n → expected n ≡ true
+  step-answers = go (stepOf (length m) v s) (step-ready v s h (U .coupled) r (length m) (U .size))
+    where
+      go : (st : Step) → StepReady v st → (n : ℕ) → st ≡ Step.refused n → expected n ≡ true
+      go (Step.refused k) R n e = let q : k ≡ n = cc in let t : expected k ≡ true = unfold StepReady in R in rw q at t
+      go (Step.program p pg s′ f) R n e = let z : _≡_ {A = ℕ} 0 1 = cc in absurd (omega arith)
+      go (Step.erase b s′ f) R n e = let z : _≡_ {A = ℕ} 0 1 = cc in absurd (omega arith)
+
+  state-met : {A : Type 0} (P : A → Type 0) (refused : ℕ → A) (a : A) → P a → P (checked refused (stateNeeds (length m) v s) a)
+  unfolding checked
+  state-met P refused a p = rw (U .size, fits) p
+
+  pick-answers : (n : ℕ) → pickOf (length m) v s ≡ Pick.turnedBack n → ⊥
+  unfolding pickOf
+  pick-answers = state-met (λ (c : Pick). (n : ℕ) → c ≡ Pick.turnedBack n → ⊥) Pick.turnedBack _ (none-back (pickBelow v (s .head) (s .index) (s .head .blocks)))
+    where
+      none-back : (o : Option ℕ) (n : ℕ) → pickedBlock o ≡ Pick.turnedBack n → ⊥
+      none-back none n e = let z : _≡_ {A = ℕ} 0 1 = cc in omega arith
+      none-back (some b) n e = let z : _≡_ {A = ℕ} 0 1 = cc in omega arith
+
+  survey-answers : (n : ℕ) → surveyOf (length m) v s ≡ Survey.turnedBack n → ⊥
+  unfolding surveyOf
+  survey-answers = state-met (λ (c : Survey). (n : ℕ) → c ≡ Survey.turnedBack n → ⊥) Survey.turnedBack _ (λ n e. let z : _≡_ {A = ℕ} 0 1 = cc in omega arith)
+
+  abbrev Told-fairly : Opening → Type 0
+  Told-fairly o = (n : ℕ) → o ≡ Opening.turnedBack n → expected n ≡ true
+
+  opening-answers : (valve n : ℕ) → openingOf (length m) v s valve ≡ Opening.turnedBack n → expected n ≡ true
+  unfolding openingOf checked
+  opening-answers valve = by-cases (isSome (lookup valve (s .index))) set unset
+    where
+      back : (k : ℕ) → expected k ≡ true → Told-fairly (Opening.turnedBack k)
+      back k e n q = let z : k ≡ n = cc in rw z at e
+
+      set : isSome (lookup valve (s .index)) ≡ true → Told-fairly (checked Opening.turnedBack (openingNeeds (length m) v s valve) (Opening.word (valueOr 0 (wordAt v (placeOf s valve)))))
+      set e =
+          let w : isSome (wordAt v (placeOf s valve)) ≡ true = unfold sound in all-in (λ (x : Cell). isSome (wordAt v x)) (unfold sound in index-sound) (in-lookup valve (s .index) e) in
+          unfold checked in rw (U .size, fits, e, w) (λ n q. let z : _≡_ {A = ℕ} 0 1 = cc in absurd (omega arith))
+
+      unset : isSome (lookup valve (s .index)) ≡ false → Told-fairly (checked Opening.turnedBack (openingNeeds (length m) v s valve) (Opening.word (valueOr 0 (wordAt v (placeOf s valve)))))
+      unset e = unfold checked in rw (U .size, fits, e) (back 18 (unfold expected every in refl))
+
+-- ---- the theorem
+
+pub steady : Steady
+unfolding Steady
+steady w h s R e = answers (w .medium) (w .state) (reached-upheld w h R) (reached-ready w h R) e
+  where
+    answers : (m : List ℕ) (o : Option Held) → Upheld (world m o) h → StateReady (views m) o → o ≡ some s → Answers m s
+    answers m none U r e = let z : _≡_ {A = ℕ} 0 1 = cc in absurd (omega arith)
+    answers m (some t) U r e =
+        let q : t ≡ s = cc in
+        let r′ : Ready (views m) t = unfold StateReady in r in
+        rw (← q)
+        (record {
+          append = append-answers m t h U r′;
+          commit = commit-answers m t h U r′;
+          collect = collect-answers m t h U r′;
+          step = step-answers m t h U r′;
+          opening = opening-answers m t h U r′;
+          pick = pick-answers m t h U r′;
+          survey = survey-answers m t h U r′;
+        })
