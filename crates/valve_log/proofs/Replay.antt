@@ -15,8 +15,8 @@ use Rattle.lists.specs.declared.Cell.{Cell}
 use Rattle.lists.specs.Lists.{all}
 use Rattle.lists.specs.Cells.{cell, Entry}
 use Rattle.lists.proofs.Laws.{by-cases, and-l, and-r, and-both, all-head, all-tail}
-use Rattle.index.specs.Index.{mostValves, risingFrom, assign, assignAll, within}
-use Rattle.recovery.specs.Recovery.{Placed, kindOf, Group, entriesOf, logOf, pagesOf, above, stack, place, enterOne, enterAll, enterPage, enterPages}
+use Rattle.index.specs.Index.{entering, mostValves, risingFrom, assign, assignAll, within}
+use Rattle.recovery.specs.Recovery.{Placed, kindOf, Group, entriesOf, logOf, pagesOf, above, stack, enterOne, enterAll, enterPage, enterPages}
 use Rattle.step.specs.Step.{groupPage, addressedFrom, addressed}
 use Rattle.valve_log.proofs.Index.{nodes, nodesOf, assign-append}
 use Rattle.valve_log.proofs.Groups.{lay}
@@ -53,7 +53,7 @@ within-right l [] b h = h
 within-right l (e ∷ a) b h = within-right (assign l e) a b (and-r (leb (length (assign l e)) mostValves) (within (assign l e) (a ++ b)) h)
 
 enter-nodes : (k a : ℕ) (l es : List Cell) → eqb k 2 ≡ false → within l (nodes a es) ≡ true → enterAll k a (some l) es ≡ some (assignAll l (nodes a es))
-unfolding enterAll enterOne place nodes within assignAll
+unfolding enterAll enterOne entering nodes within assignAll
 enter-nodes k a l [] q h = refl
 enter-nodes k a l (e ∷ es) q h =
     let c : Cell = cell (e .key) a in
