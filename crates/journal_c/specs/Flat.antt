@@ -1,0 +1,86 @@
+-- What the flat structs say.
+use mathlib.Core.Path.{_≡_}
+use mathlib.Core.Bool.{cond}
+use mathlib.Core.Option.{Option, none, some}
+use mathlib.Core.List.{List}
+use Prim.Native.Nat.{ℕ, _+_, _*_}
+use lib.ListN.{length}
+use lib.Dec.{eqb, leb}
+use Rattle.lists.specs.Cells.{listed}
+use Rattle.codec.specs.Codec.{part}
+use Rattle.flash.specs.Medium.{pageAt}
+use Rattle.state.specs.declared.Operation.{Operation}
+use Rattle.state.specs.declared.Operation.the-variants.{Idle, Append, Commit, Collect, Format}
+use Rattle.state.specs.State.{Held, held, pendingOf, meaning}
+use Rattle.recovery.specs.Recovery.{Recovery, refused, recovered}
+use Rattle.readings.specs.Readings.{LogRead, Answer, changes}
+use Rattle.journal_c.specs.declared.Named.{Named}
+use Rattle.journal_c.specs.declared.Lent.{Lent}
+use Rattle.journal_c.specs.declared.VjState.{VjState}
+use Rattle.journal_c.specs.declared.VjRecovered.{VjRecovered}
+use Rattle.journal_c.specs.declared.VjCount.{VjCount}
+use Rattle.journal_c.specs.declared.VjPart.{VjPart}
+
+-- ---- the state
+
+-- the operation that a code names, with its progress; a code past 4 names none
+unfoldable pub operationOf : ℕ → ℕ → Option Operation
+operationOf code k =
+    cond (eqb code 0) (some Idle)
+    (cond (eqb code 1) (some (Append k))
+    (cond (eqb code 2) (some (Commit k))
+    (cond (eqb code 3) (some (Collect k))
+    (cond (eqb code 4) (some (Format k)) none))))
+
+-- what a flat state holds with this operation
+unfoldable pub heldWith : VjState → Option Operation → Option Held
+heldWith f none = none
+heldWith f (some o) = some (held (f .head) (listed (f .index)) (pendingOf o (f .group) (f .pages)))
+
+-- what a flat state holds; nothing where its code names no operation
+unfoldable pub heldBy : VjState → Option Held
+heldBy f = heldWith f (operationOf (f .operation) (f .progress))
+
+-- what the code's two answers say
+unfoldable pub namedBy : Named → Option Operation
+namedBy n = cond (n .known) (some (n .operation)) none
+
+unfoldable pub heldIn : Lent → Option Held
+heldIn l = cond (l .known) (some (meaning (l .state))) none
+
+-- ---- recovery: a refusal, or the state
+
+pub data Found : Type 0 where
+  turnedBack : ℕ → Found
+  state : Held → Found
+
+-- what a recovery comes to, with its log left out
+unfoldable pub found : Recovery → Found
+found (refused n) = turnedBack n
+found (recovered log s) = state s
+
+unfoldable pub stateIn : Option Held → Option Found
+stateIn none = none
+stateIn (some s) = some (state s)
+
+-- what the call's answer says
+unfoldable pub foundBy : VjRecovered → Option Found
+foundBy r = cond (eqb (r .number) 0) (stateIn (heldBy (r .state))) (some (turnedBack (r .number)))
+
+-- ---- the log
+
+-- a number that refuses, or 0 and a count
+unfoldable pub answerBy : VjCount → Answer
+answerBy c = cond (eqb (c .number) 0) (changes (c .count)) (Answer.turnedBack (c .number))
+
+-- the answer, with the two lent lists as the call leaves them
+abbrev pub logBy : VjCount → List ℕ → List ℕ → LogRead
+logBy c keys words = record { answer = answerBy c; keys = keys; words = words }
+
+-- ---- pages
+
+-- a part of the medium that is page p: its 256 bytes from byte 256p on, or nothing from byte 0 on
+pub record IsPage (m : List ℕ) (p : ℕ) (r : VjPart) : Type 0 where
+  pub bytes : part (r .offset) (r .length) m ≡ pageAt m p
+  pub start : r .offset ≡ cond (leb (256 * p + 256) (length m)) (256 * p) 0
+  pub size : r .length ≡ cond (leb (256 * p + 256) (length m)) 256 0

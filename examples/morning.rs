@@ -1,0 +1,66 @@
+// Reads a medium from standard input; prints its log and the valves that are set, or the number of the refusal.
+//
+//   rt staticlib journal_c
+//   rustc --edition 2021 -O -L target/staticlib examples/morning.rs -o target/morning_rs
+use std::io::Read;
+
+#[repr(C)]
+struct Cell { key: u16, val: u64 }
+#[repr(C)]
+struct Cells { count: usize, cells: [Cell; 192] }
+#[repr(C)]
+struct Head { blocks: usize, block: usize, next: usize, serial: u64, base: u64 }
+#[repr(C)]
+struct State { head: Head, index: Cells, group: Cells, pages: [u16; 4], operation: u8, progress: u64 }
+#[repr(C)]
+struct Recovered { number: u8, state: State }
+#[repr(C)]
+struct Count { number: u8, count: usize }
+#[repr(C)]
+struct Part { offset: usize, length: usize }
+
+#[link(name = "journal_c", kind = "static")]
+extern "C" {
+    fn vj_recover(m: *const u8, m_len: usize) -> Recovered;
+    fn vj_log(m: *const u8, m_len: usize, keys: *mut u16, keys_len: usize, words: *mut u64, words_len: usize) -> Count;
+    fn vj_page(m: *const u8, m_len: usize, p: usize) -> Part;
+}
+
+// The word of a place of the index.
+fn word_at(m: &[u8], address: u64) -> u64 {
+    let page = unsafe { vj_page(m.as_ptr(), m.len(), address as usize / 24) };
+    let at = 64 + 8 * (address as usize % 24);
+    m[page.offset..][..page.length].get(at..at + 8).map_or(0, |bytes| u64::from_le_bytes(bytes.try_into().unwrap()))
+}
+
+// The log's keys and words, and the state; or the number of the refusal.
+fn read(m: &[u8]) -> Result<(Vec<(u16, u64)>, State), u8> {
+    if m.len() > 65536 {
+        return Err(1);
+    }
+    let (mut keys, mut words) = (vec![0u16; 6144], vec![0u64; 6144]);
+    let log = unsafe { vj_log(m.as_ptr(), m.len(), keys.as_mut_ptr(), keys.len(), words.as_mut_ptr(), words.len()) };
+    let found = unsafe { vj_recover(m.as_ptr(), m.len()) };
+    match (log.number, found.number) {
+        (0, 0) => Ok((keys.into_iter().zip(words).take(log.count).collect(), found.state)),
+        (0, number) | (number, _) => Err(number),
+    }
+}
+
+fn main() {
+    let mut m = Vec::new();
+    std::io::stdin().take(65537).read_to_end(&mut m).expect("standard input");
+    match read(&m) {
+        Err(number) => println!("refused {number}"),
+        Ok((log, state)) => {
+            println!("log {}", log.len());
+            for (key, word) in log {
+                if key < 32768 { println!("{key} {word}") } else { println!("{} -", key - 32768) }
+            }
+            println!("set {}", state.index.count);
+            for c in &state.index.cells[..state.index.count] {
+                println!("{} {}", c.key, word_at(&m, c.val));
+            }
+        }
+    }
+}

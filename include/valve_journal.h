@@ -1,0 +1,103 @@
+/* The valve journal for C programs: recovery, the log, and the pages of a medium.
+ *
+ * A medium is a run of bytes in memory, lent to each call as a pointer and a length. It has 4 to 16 blocks of 4096 bytes; a block has 16
+ * pages of 256 bytes. Every call takes a medium of any length and any content and answers; none keeps a pointer, allocates, prints or
+ * ends the program.
+ *
+ * A lent pointer is aligned for its type and, where its length is not 0, points to that many elements, which nobody else writes while the
+ * call runs. A list that a call writes overlaps no other list that is lent to the same call.
+ *
+ * Numbers of refusals. 0 is no refusal; the lowest number that applies is given.
+ *   1  the medium's length is not 4 to 16 times 4096 bytes
+ *   2  a whole page breaks the page rules
+ *   3  two whole pages share a serial
+ *   4  no complete base
+ *   5  from the base on, a gap in the serials or a page out of its group
+ *   6  the base's valves do not rise, over 192 valves are set, or an address of the index lacks its entry
+ *  17  a lent list is too short
+ */
+#ifndef VALVE_JOURNAL_H
+#define VALVE_JOURNAL_H
+
+#include <stddef.h>
+#include <stdint.h>
+
+#ifdef __cplusplus
+extern "C" {
+#endif
+
+/* A number under a key. In the index: a valve and the address of its entry, 24 x page + place. In a group: a key and a word; the key is
+ * the valve, or 32768 + valve for a removal. */
+typedef struct VjCell {
+    uint16_t key;
+    uint64_t val;
+} VjCell;
+
+/* A list of at most 192 cells. */
+typedef struct VjCells {
+    size_t count;      /* how many of `cells` are in the list, from the first on */
+    VjCell cells[192]; /* places from `count` on mean nothing */
+} VjCells;
+
+/* Where the journal writes next. */
+typedef struct VjHead {
+    size_t blocks;   /* how many blocks the medium has */
+    size_t block;    /* the head block, from 0 */
+    size_t next;     /* the next page in it, 1 to 16; at 16 the block is used up */
+    uint64_t serial; /* the next serial */
+    uint64_t base;   /* the first serial of the base */
+} VjHead;
+
+/* The values of VjState.operation; any other names no operation. */
+enum {
+    VJ_IDLE = 0,    /* nothing is pending; progress means nothing */
+    VJ_APPEND = 1,  /* an append; progress is the pages written */
+    VJ_COMMIT = 2,  /* a commit; progress is the pages written */
+    VJ_COLLECT = 3, /* a collection; progress is the block */
+    VJ_FORMAT = 4   /* formatting; progress is the blocks erased */
+};
+
+/* What the journal keeps between calls. */
+typedef struct VjState {
+    VjHead head;
+    VjCells index;     /* the valves that are set, ascending, each with the address of its entry */
+    VjCells group;     /* the entries of a pending append; else it means nothing */
+    uint16_t pages[4]; /* the pages that a pending append has written, the first `progress`; else they mean nothing */
+    uint8_t operation; /* what is pending: VJ_IDLE to VJ_FORMAT */
+    uint64_t progress; /* how far it is, or its block */
+} VjState;
+
+/* What vj_recover answers. */
+typedef struct VjRecovered {
+    uint8_t number; /* 0, or the number of the refusal */
+    VjState state;  /* the state, with nothing pending; on a refusal it means nothing */
+} VjRecovered;
+
+/* What vj_log answers. */
+typedef struct VjCount {
+    uint8_t number; /* 0, or the number of the refusal */
+    size_t count;   /* how many changes the log has; 0 on a refusal */
+} VjCount;
+
+/* A part of the medium. */
+typedef struct VjPart {
+    size_t offset; /* its first byte */
+    size_t length; /* how many bytes it has */
+} VjPart;
+
+/* Recovers the state from the medium, which stays as it is. Refuses 1 to 6. */
+VjRecovered vj_recover(const uint8_t *medium, size_t medium_length);
+
+/* Reads the log into two lists: for each change in order the key and the word, as stored; a removal's key is 32768 + valve. Lists of 6144
+ * places are long enough for every medium. Places past the log stay as they were, and on a refusal all do. Refuses 1 to 6 and 17. */
+VjCount vj_log(const uint8_t *medium, size_t medium_length, uint16_t *keys, size_t keys_length, uint64_t *words, size_t words_length);
+
+/* The part of the medium that is page p, counted from 0: 256 bytes from byte 256 x p on. Where the medium, of any length, lacks one of
+ * these bytes, offset and length are 0. Never refuses. */
+VjPart vj_page(const uint8_t *medium, size_t medium_length, size_t p);
+
+#ifdef __cplusplus
+}
+#endif
+
+#endif

@@ -1,0 +1,170 @@
+//! The proved library against the second implementation, on many media: the refusal, the state and the log of each.
+
+use journal_tests::random::{self, Random};
+use journal_tests::reader::{self, Refused, State};
+
+#[repr(C)]
+struct VjCell {
+    key: u16,
+    val: u64,
+}
+
+#[repr(C)]
+struct VjCells {
+    count: usize,
+    cells: [VjCell; 192],
+}
+
+#[repr(C)]
+struct VjHead {
+    blocks: usize,
+    block: usize,
+    next: usize,
+    serial: u64,
+    base: u64,
+}
+
+#[repr(C)]
+struct VjState {
+    head: VjHead,
+    index: VjCells,
+    group: VjCells,
+    pages: [u16; 4],
+    operation: u8,
+    progress: u64,
+}
+
+#[repr(C)]
+struct VjRecovered {
+    number: u8,
+    state: VjState,
+}
+
+#[repr(C)]
+struct VjCount {
+    number: u8,
+    count: usize,
+}
+
+#[link(name = "journal_c", kind = "static")]
+extern "C" {
+    fn vj_recover(m: *const u8, m_len: usize) -> VjRecovered;
+    fn vj_log(m: *const u8, m_len: usize, keys: *mut u16, keys_len: usize, words: *mut u64, words_len: usize) -> VjCount;
+}
+
+/// What the proved recovery says, in the other implementation's terms.
+fn recover(medium: &[u8]) -> Result<State, Refused> {
+    // The pointer and the length are those of the slice.
+    let r = unsafe { vj_recover(medium.as_ptr(), medium.len()) };
+    if r.number != 0 {
+        return Err(Refused(r.number));
+    }
+    let s = r.state;
+    assert_eq!(s.operation, 0, "nothing is pending after a recovery");
+    Ok(State {
+        blocks: s.head.blocks,
+        head: s.head.block,
+        next_page: s.head.next,
+        next_serial: s.head.serial,
+        first_base_serial: s.head.base,
+        index: s.index.cells[..s.index.count].iter().map(|c| reader::Place { valve: c.key, address: c.val }).collect(),
+        pending: None,
+    })
+}
+
+/// The proved log into lists of these lengths, which hold 9 before.
+fn log(medium: &[u8], keys: usize, words: usize) -> (Result<usize, Refused>, Vec<u16>, Vec<u64>) {
+    let (mut keys, mut words) = (vec![9u16; keys], vec![9u64; words]);
+    // Each pointer has the length of its own list, and the lists are apart.
+    let r = unsafe { vj_log(medium.as_ptr(), medium.len(), keys.as_mut_ptr(), keys.len(), words.as_mut_ptr(), words.len()) };
+    let answer = if r.number == 0 { Ok(r.count) } else { Err(Refused(r.number)) };
+    (answer, keys, words)
+}
+
+/// The other implementation's, likewise.
+fn expected_log(medium: &[u8], keys: usize, words: usize) -> (Result<usize, Refused>, Vec<u16>, Vec<u64>) {
+    let (mut keys, mut words) = (vec![9u16; keys], vec![9u64; words]);
+    let answer = reader::log_into(medium, &mut keys, &mut words);
+    (answer, keys, words)
+}
+
+/// Both say the same of a medium; the refusal, or 0.
+fn agree(random: &mut Random, medium: &[u8]) -> u8 {
+    let expected = reader::recover(medium);
+    assert_eq!(recover(medium), expected);
+    let changes = reader::log_into(medium, &mut [0; 6144], &mut [0; 6144]).unwrap_or(0);
+    let short = random.below(changes + 1);
+    for (keys, words) in [(6144, 6144), (changes, changes), (short, 6144), (6144, short), (changes + 3, changes + 1)] {
+        assert_eq!(log(medium, keys, words), expected_log(medium, keys, words));
+    }
+    expected.map_or_else(|refused| refused.0, |_| 0)
+}
+
+#[test]
+fn on_media_that_were_lived() {
+    let mut random = Random::new(41);
+    for events in 0..400 {
+        let life = random::lived(&mut random, events);
+        agree(&mut random, &life.medium);
+        let medium = random::medium(&mut random);
+        assert_eq!(agree(&mut random, &medium), 0);
+    }
+}
+
+#[test]
+fn on_damaged_media() {
+    let mut random = Random::new(42);
+    let mut seen = [0u32; 7];
+    for _ in 0..2500 {
+        let mut medium = random::medium(&mut random);
+        for _ in 0..random.from_to(1, 4) {
+            if medium.len() >= 256 {
+                random::damage(&mut random, &mut medium);
+            }
+        }
+        seen[agree(&mut random, &medium) as usize] += 1;
+    }
+    for _ in 0..2500 {
+        let medium = random::sketched(&mut random);
+        seen[agree(&mut random, &medium) as usize] += 1;
+    }
+    assert!(seen.iter().all(|&n| n >= 20), "each answer from 0 to 6 comes often: {seen:?}");
+}
+
+#[test]
+fn on_each_way_to_be_refused() {
+    let mut random = Random::new(43);
+    for number in 1..=6 {
+        for way in 0..random::ways(number) {
+            for _ in 0..20 {
+                let medium = random::refused_medium(&mut random, number, way);
+                assert_eq!(agree(&mut random, &medium), number);
+            }
+        }
+    }
+}
+
+#[test]
+fn on_a_medium_with_each_bit_of_some_pages_turned() {
+    let mut random = Random::new(44);
+    let mut medium = random::medium(&mut random);
+    let pages = medium.len() / 256;
+    for _ in 0..3 {
+        let page = random.below(pages);
+        for bit in 0..2048 {
+            medium[256 * page + bit / 8] ^= 1 << (bit % 8);
+            agree(&mut random, &medium);
+            medium[256 * page + bit / 8] ^= 1 << (bit % 8);
+        }
+    }
+}
+
+#[test]
+fn on_bytes_of_any_length() {
+    let mut random = Random::new(45);
+    for length in (0..300).chain([4095, 4096, 16383, 16384, 16385, 65536, 69632]) {
+        let mut medium = vec![0u8; length];
+        random.fill(&mut medium);
+        agree(&mut random, &medium);
+    }
+}

@@ -1,0 +1,518 @@
+//! The small example of each refusal, and the order of refusals in each call.
+
+mod common;
+
+use common::*;
+use journal_tests::random::{refused_medium, ways, Random};
+use journal_tests::reader::*;
+use journal_tests::writer::{self, lay_page, put_page, Pending, State, Touched};
+
+/// A medium with these pages from page 0 on: kind, flags, serial, entries.
+fn pages(list: &[(u8, u8, u64, &[Entry])]) -> Vec<u8> {
+    let mut medium = blank(4);
+    for (at, &(kind, flags, serial, entries)) in list.iter().enumerate() {
+        put_page(&mut medium, at, &lay_page(kind, flags, serial, entries));
+    }
+    medium
+}
+
+const FIVE: Entry = Entry { key: 5, word: 1000 };
+
+// ---------------------------------------------------------------------------
+// Recovery: 1 to 6, and 17
+
+#[test]
+fn small_examples_of_recovery() {
+    assert_eq!(recovery_number(&vec![0xFF; 12288]), 1);
+    assert_eq!(recovery_number(&pages(&[(BASE, 3, 1, &[]), (9, 3, 2, &[FIVE])])), 2);
+    let (mut medium, _) = formatted(4);
+    medium.copy_within(0..256, 256);
+    assert_eq!(recovery_number(&medium), 3);
+    assert_eq!(recovery_number(&blank(4)), 4);
+    let gap = pages(&[(BASE, 3, 1, &[]), (NODES, 3, 2, &[FIVE]), (NODES, 3, 4, &[FIVE])]);
+    assert_eq!(recovery_number(&gap), 5);
+    let stray = pages(&[(BASE, 3, 1, &[Entry { key: 5, word: 0 }])]);
+    assert_eq!(recovery_number(&stray), 6);
+}
+
+#[test]
+fn every_way_to_be_refused() {
+    let mut random = Random::new(1);
+    for number in 1..=6 {
+        for way in 0..ways(number) {
+            for _ in 0..20 {
+                let medium = refused_medium(&mut random, number, way);
+                assert_eq!(recovery_number(&medium), number, "refusal {number}, way {way}");
+            }
+        }
+    }
+}
+
+#[test]
+fn the_lowest_number_wins_in_recovery() {
+    // Six things wrong: a gap, a stray address, a serial twice, an unlawful
+    // page, no complete base. Mended one by one.
+    let stray = [Entry { key: 5, word: 0 }];
+    let mut medium = pages(&[
+        (BASE, 2, 1, &stray),
+        (NODES, 2, 3, &[FIVE]),
+        (NODES, 3, 3, &[FIVE]),
+        (9, 3, 7, &[FIVE]),
+    ]);
+    assert_eq!(recovery_number(&medium[..medium.len() - 1]), 1);
+    assert_eq!(recovery_number(&medium), 2);
+    put_page(&mut medium, 3, &[0xFF; 256]);
+    assert_eq!(recovery_number(&medium), 3);
+    put_page(&mut medium, 2, &[0; 256]);
+    assert_eq!(recovery_number(&medium), 4);
+    put_page(&mut medium, 0, &lay_page(BASE, 3, 1, &stray));
+    assert_eq!(recovery_number(&medium), 5);
+    put_page(&mut medium, 1, &lay_page(NODES, 3, 2, &[Entry { key: 6, word: 1 }]));
+    assert_eq!(recovery_number(&medium), 6);
+    put_page(&mut medium, 1, &lay_page(NODES, 3, 2, &[FIVE]));
+    assert_eq!(recovery_number(&medium), 0);
+}
+
+#[test]
+fn two_and_three_are_judged_before_the_base_too() {
+    let old = pages(&[(BASE, 3, 9, &[]), (NODES, 2, 2, &[FIVE]), (NODES, 2, 2, &[FIVE])]);
+    assert_eq!(recovery_number(&old), 3);
+    let mut old = pages(&[(BASE, 3, 9, &[]), (NODES, 2, 2, &[FIVE])]);
+    assert_eq!(recovery_number(&old), 0);
+    put_page(&mut old, 5, &lay_page(MOVED, 1, 3, &[FIVE; 24]));
+    assert_eq!(recovery_number(&old), 2);
+}
+
+#[test]
+fn unfinished_groups_are_dropped() {
+    let full = [FIVE; 24];
+    let other = [Entry { key: 6, word: 1 }; 24];
+    let medium = pages(&[
+        (BASE, 3, 1, &[]),
+        (NODES, 1, 2, &full),
+        (NODES, 1, 3, &other),
+        (NODES, 2, 4, &other[..1]),
+        (BASE, 1, 5, &full),
+        (NODES, 3, 6, &full[..2]),
+        (BASE, 1, 7, &full),
+        (BASE, 0, 8, &full),
+        (MOVED, 3, 9, &full[..1]),
+        (NODES, 1, 10, &full),
+    ]);
+    let replay = replay(&medium).expect("recovery");
+    let lengths: Vec<usize> = replay.log().iter().map(Vec::len).collect();
+    assert_eq!(lengths, [25, 2]);
+    let state = &replay.state;
+    assert_eq!((state.next_serial, state.first_base_serial, state.head), (11, 1, 0));
+    let index = [(5, 8 * 24), (6, 3 * 24)];
+    let found: Vec<(u16, u64)> = state.index.iter().map(|p| (p.valve, p.address)).collect();
+    assert_eq!(found, index);
+}
+
+#[test]
+fn the_head_is_where_the_greatest_serial_is() {
+    let mut medium = blank(4);
+    put_page(&mut medium, 50, &lay_page(BASE, 3, u64::MAX - 2, &[]));
+    put_page(&mut medium, 17, &lay_page(NODES, 3, u64::MAX - 1, &[FIVE]));
+    let state = recover(&medium).expect("recovery");
+    assert_eq!((state.head, state.next_page), (1, 16));
+    assert_eq!((state.next_serial, state.first_base_serial), (u64::MAX, u64::MAX - 2));
+}
+
+#[test]
+fn base_addresses_that_the_log_replaces_are_not_judged() {
+    let base = [Entry { key: 5, word: u64::MAX }, Entry { key: 6, word: 0 }];
+    let removed = Entry { key: 6 + REMOVAL, word: 0 };
+    let medium = pages(&[(BASE, 3, 1, &base), (NODES, 3, 2, &[FIVE, removed])]);
+    assert_eq!(recovery_number(&medium), 0);
+}
+
+#[test]
+fn log_into_lists() {
+    let (mut medium, mut state) = formatted(4);
+    append(&mut medium, &mut state, &[(5, 1000), (7, 20)]);
+    append(&mut medium, &mut state, &[(5 + REMOVAL, 0)]);
+    let (mut keys, mut words) = ([1; 5], [1; 4]);
+    assert_eq!(log_into(&medium, &mut keys[..2], &mut words), refused(17));
+    assert_eq!(log_into(&medium, &mut keys, &mut words[..2]), refused(17));
+    assert_eq!((keys, words), ([1; 5], [1; 4]));
+    assert_eq!(log_into(&medium, &mut keys, &mut words), Ok(3));
+    assert_eq!(keys, [5, 7, 5 + REMOVAL, 1, 1]);
+    assert_eq!(words, [1000, 20, 0, 1]);
+    assert_eq!(log_into(&blank(4), &mut [], &mut []), refused(4));
+}
+
+// ---------------------------------------------------------------------------
+// 7
+
+/// A state that is fit for the medium of `formatted(4)`, and unfit after the
+/// change.
+fn unfit(change: impl Fn(&mut State)) {
+    let (medium, mut state) = formatted(4);
+    append(&mut medium.clone(), &mut state.clone(), &[(5, 1)]);
+    assert!(fit(&medium, &state));
+    change(&mut state);
+    assert!(!fit(&medium, &state), "{state:?}");
+    let (mut lent, mut given) = (medium.clone(), state.clone());
+    assert_eq!(begin_append(&lent, &mut given, &[]), refused(7));
+    assert_eq!(writer::commit(&lent, &mut given), refused(7));
+    assert_eq!(writer::collect(&lent, &mut given, 99), refused(7));
+    assert_eq!(writer::step(&mut lent, &mut given), refused(7));
+    assert_eq!(open(&lent, &given, 5), refused(7));
+    assert_eq!(pick(&lent, &given), refused(7));
+    assert_eq!(survey(&lent, &given), refused(7));
+    assert_eq!((lent, given), (medium, state));
+}
+
+fn index_of(count: u16) -> Vec<Place> {
+    (0..count).map(|valve| Place { valve, address: 0 }).collect()
+}
+
+fn pending_append(entries: Vec<Entry>, done: u32) -> Option<Pending> {
+    Some(Pending::Append { entries, written: (0..done).collect() })
+}
+
+#[test]
+fn unfit_states() {
+    unfit(|state| state.blocks = 5);
+    unfit(|state| state.head = 4);
+    unfit(|state| state.next_page = 0);
+    unfit(|state| state.next_page = 17);
+    unfit(|state| state.index = index_of(193));
+    unfit(|state| state.index = vec![Place { valve: 5, address: 0 }; 2]);
+    unfit(|state| {
+        state.index = index_of(2);
+        state.index.swap(0, 1);
+    });
+    unfit(|state| state.index = vec![Place { valve: 32768, address: 0 }]);
+    unfit(|state| state.index = vec![Place { valve: 5, address: 1536 }]);
+    unfit(|state| state.next_serial = 0);
+    unfit(|state| state.first_base_serial = 2);
+    unfit(|state| {
+        state.next_serial = 0;
+        state.first_base_serial = 0;
+    });
+}
+
+#[test]
+fn unfit_pending_operations() {
+    let removal = Entry { key: 32773, word: 1 };
+    unfit(|state| state.pending = pending_append(vec![], 0));
+    unfit(|state| state.pending = pending_append(vec![FIVE; 97], 0));
+    unfit(|state| state.pending = pending_append(vec![removal], 0));
+    unfit(|state| {
+        state.index = index_of(192);
+        state.pending = pending_append(vec![Entry { key: 200, word: 1 }], 0);
+    });
+    // Pages done: as many as the list takes, or not below the next serial 2.
+    unfit(|state| state.pending = pending_append(vec![FIVE; 24], 1));
+    unfit(|state| state.pending = pending_append(vec![FIVE; 96], 2));
+    unfit(|state| state.pending = Some(Pending::Commit { done: 1 }));
+    unfit(|state| {
+        state.index = index_of(192);
+        state.pending = Some(Pending::Commit { done: 2 });
+    });
+    unfit(|state| state.pending = Some(Pending::Collect { block: 0 }));
+    unfit(|state| state.pending = Some(Pending::Collect { block: 1 }));
+    unfit(|state| state.pending = Some(Pending::Collect { block: 4 }));
+}
+
+#[test]
+fn unfit_formatting() {
+    unfit(|state| state.pending = Some(Pending::Format { erased: 0 }));
+    let at_start = |change: &dyn Fn(&mut State)| {
+        unfit(|state| {
+            *state = State::at_format(4);
+            change(state);
+        });
+    };
+    at_start(&|state| state.pending = Some(Pending::Format { erased: 5 }));
+    at_start(&|state| state.head = 0);
+    at_start(&|state| state.next_page = 15);
+    at_start(&|state| state.next_serial = 2);
+    at_start(&|state| {
+        state.next_serial = 2;
+        state.first_base_serial = 1;
+    });
+    at_start(&|state| state.index = index_of(1));
+    let mut all_erased = State::at_format(4);
+    all_erased.pending = Some(Pending::Format { erased: 4 });
+    assert!(fit(&blank(4), &all_erased));
+}
+
+#[test]
+fn odd_states_that_are_fit() {
+    let (medium, state) = formatted(4);
+    let odd = |change: &dyn Fn(&mut State)| {
+        let mut state = state.clone();
+        change(&mut state);
+        assert!(fit(&medium, &state), "{state:?}");
+    };
+    odd(&|state| state.head = 3);
+    odd(&|state| state.index = index_of(192));
+    odd(&|state| state.index = vec![Place { valve: 32767, address: 1535 }]);
+    odd(&|state| state.next_serial = u64::MAX);
+    odd(&|state| state.first_base_serial = 0);
+    odd(&|state| {
+        state.index = index_of(192);
+        state.pending = Some(Pending::Commit { done: 1 });
+    });
+    // Pages written may be any.
+    odd(&|state| {
+        let entries = vec![FIVE; 25];
+        state.pending = Some(Pending::Append { entries, written: vec![u32::MAX] });
+    });
+}
+
+#[test]
+fn state_of_4_blocks_medium_of_5() {
+    let (_, state) = formatted(4);
+    let (medium, _) = formatted(5);
+    assert_eq!(survey(&medium, &state), refused(7));
+}
+
+// ---------------------------------------------------------------------------
+// 8 to 18
+
+#[test]
+fn small_examples_of_calls() {
+    let (mut medium, mut state) = formatted(4);
+    assert_eq!(open(&medium, &state, 5), refused(18));
+    assert_eq!(open(&medium, &state, 40000), refused(18));
+    assert_eq!(writer::collect(&medium, &mut state, 0), refused(15));
+    assert_eq!(writer::collect(&medium, &mut state, 1), refused(15));
+    assert_eq!(writer::collect(&medium, &mut state, 4), refused(15));
+    assert_eq!(writer::collect(&medium, &mut state, usize::MAX), refused(15));
+    assert_eq!(begin_append(&medium, &mut state, &[(32773, 1)]), refused(11));
+    assert_eq!(writer::append(&medium, &mut state, &[5, 6], &[1]), refused(10));
+    let mut recovered = recover(&medium).expect("recovery");
+    assert_eq!(writer::step(&mut medium, &mut recovered), refused(9));
+    begin_append(&medium, &mut state, &[(5, 1)]).expect("append");
+    assert_eq!(writer::commit(&medium, &mut state), refused(8));
+    assert_eq!(begin_append(&medium, &mut state, &[]), refused(8));
+    assert_eq!(writer::collect(&medium, &mut state, 99), refused(8));
+    medium[256] = 0;
+    let (lent, given) = (medium.clone(), state.clone());
+    assert_eq!(writer::step(&mut medium, &mut state), refused(16));
+    assert_eq!((medium, state), (lent, given));
+}
+
+#[test]
+fn a_193rd_valve() {
+    let (mut medium, mut state) = formatted(8);
+    append(&mut medium, &mut state, &valves(0, 96));
+    append(&mut medium, &mut state, &valves(96, 96));
+    assert_eq!(begin_append(&medium, &mut state, &[(192, 1)]), refused(12));
+    // Taken back by a later entry: refused all the same.
+    assert_eq!(begin_append(&medium, &mut state, &[(192, 1), (32768, 0)]), refused(12));
+    assert_eq!(begin_append(&medium, &mut state, &[(191, 1), (32768, 0), (192, 1)]), Ok(()));
+}
+
+#[test]
+fn serials_run_out() {
+    let (medium, mut state) = formatted(4);
+    state.next_serial = u64::MAX;
+    assert_eq!(begin_append(&medium, &mut state, &[(5, 1)]), refused(14));
+    assert_eq!(writer::commit(&medium, &mut state), refused(14));
+    state.next_serial = u64::MAX - 1;
+    assert_eq!(begin_append(&medium, &mut state, &valves(0, 25)), refused(14));
+    assert_eq!(begin_append(&medium, &mut state, &valves(0, 24)), Ok(()));
+    // A step asks for one page only.
+    let mut medium = medium;
+    state.pending = pending_append(vec![FIVE; 96], 0);
+    assert!(writer::step(&mut medium, &mut state).is_ok());
+    assert_eq!(state.next_serial, u64::MAX);
+    medium[512] = 0;
+    assert_eq!(writer::step(&mut medium, &mut state), refused(14));
+    state.next_serial = 9;
+    assert_eq!(writer::step(&mut medium, &mut state), refused(16));
+}
+
+#[test]
+fn order_of_append() {
+    let (mut medium, mut state) = formatted(4);
+    append(&mut medium, &mut state, &valves(0, 96));
+    append(&mut medium, &mut state, &valves(96, 96));
+    for word in 0..39 {
+        append(&mut medium, &mut state, &[(5, word)]);
+    }
+    state.next_serial = u64::MAX;
+    let mut words = vec![1; 96];
+    let mut keys: Vec<u16> = (200..296).collect();
+    keys[95] = 32773;
+    assert_eq!(writer::append(&medium, &mut state, &keys, &words[1..]), refused(10));
+    assert_eq!(writer::append(&medium, &mut state, &keys, &words), refused(11));
+    words[95] = 0;
+    assert_eq!(writer::append(&medium, &mut state, &keys, &words), refused(12));
+    assert_eq!(writer::append(&medium, &mut state, &[5], &[0]), refused(13));
+}
+
+/// A journal whose block 0 is collectible and holds 48 live nodes: two pages.
+fn collectible_block_0(blocks: usize) -> (Vec<u8>, State) {
+    let (mut medium, mut state) = formatted(blocks);
+    append(&mut medium, &mut state, &valves(0, 48));
+    for word in 0..13 {
+        append(&mut medium, &mut state, &[(99, word)]);
+    }
+    append(&mut medium, &mut state, &[(99 + REMOVAL, 0)]);
+    commit(&mut medium, &mut state);
+    assert!(collectible(&medium, &state, 0));
+    assert_eq!(live_nodes(&state, 0).len(), 48);
+    (medium, state)
+}
+
+#[test]
+fn order_of_collect() {
+    let (mut medium, mut state) = collectible_block_0(4);
+    // No clean block, one page left in the head, and no serial left.
+    for block in [2, 3] {
+        medium[block * BLOCK_BYTES] = 0;
+    }
+    state.next_page = 15;
+    state.next_serial = u64::MAX;
+    assert_eq!(available(&medium, &state), 1);
+    assert_eq!(writer::collect(&medium, &mut state, 1), refused(15));
+    // The 48th node's page is spoilt.
+    let byte = medium[2 * 256 + 64];
+    medium[2 * 256 + 64] ^= 1;
+    assert_eq!(writer::collect(&medium, &mut state, 0), refused(6));
+    medium[2 * 256 + 64] = byte;
+    assert_eq!(writer::collect(&medium, &mut state, 0), refused(13));
+    state.next_page = 14;
+    assert_eq!(writer::collect(&medium, &mut state, 0), refused(14));
+    state.next_serial = u64::MAX - 2;
+    assert_eq!(writer::collect(&medium, &mut state, 0), Ok(()));
+    // A block that holds no live node needs neither page nor serial.
+    state.pending = None;
+    state.next_serial = u64::MAX;
+    state.next_page = 16;
+    assert_eq!(writer::collect(&medium, &mut state, 2), Ok(()));
+    let step = writer::step(&mut medium, &mut state).expect("erase");
+    assert_eq!((step.touched, step.finished), (Touched::Block(2), true));
+}
+
+#[test]
+fn order_of_step() {
+    let (mut medium, mut state) = collectible_block_0(4);
+    writer::collect(&medium, &mut state, 0).expect("collect");
+    // Nodes of the second page due do not matter to the first step.
+    let byte = medium[2 * 256 + 64];
+    medium[2 * 256 + 64] ^= 1;
+    writer::step(&mut medium, &mut state).expect("first page");
+    // Now they do; 6 comes before 14, and 14 before 16.
+    let serial = state.next_serial;
+    state.next_serial = u64::MAX;
+    let due = page_due(&medium, &state).expect("page due");
+    medium[due * 256] = 0;
+    assert_eq!(writer::step(&mut medium, &mut state), refused(6));
+    medium[2 * 256 + 64] = byte;
+    assert_eq!(writer::step(&mut medium, &mut state), refused(14));
+    state.next_serial = serial;
+    assert_eq!(writer::step(&mut medium, &mut state), refused(16));
+    medium[due * 256] = 0xFF;
+    writer::step(&mut medium, &mut state).expect("second page");
+    let last = writer::step(&mut medium, &mut state).expect("erase");
+    assert_eq!((last.touched, last.finished), (Touched::Block(0), true));
+}
+
+#[test]
+fn the_page_due_may_be_absent() {
+    let (mut medium, mut state) = formatted(4);
+    state.next_page = 16;
+    begin_append(&medium, &mut state, &[(5, 1)]).expect("append");
+    for block in 1..4 {
+        medium[block * BLOCK_BYTES + 4095] = 0x7F;
+    }
+    assert_eq!(page_due(&medium, &state), None);
+    assert_eq!(writer::step(&mut medium, &mut state), refused(16));
+    medium[2 * BLOCK_BYTES + 4095] = 0xFF;
+    assert_eq!(page_due(&medium, &state), Some(32));
+}
+
+#[test]
+fn the_new_head_wraps_round() {
+    let (medium, mut state) = formatted(4);
+    state.head = 2;
+    state.next_page = 16;
+    assert_eq!(page_due(&medium, &state), Some(48));
+    state.head = 3;
+    // Block 0 holds the base: the first clean one after it is block 1.
+    assert_eq!(page_due(&medium, &state), Some(16));
+    assert_eq!(available(&medium, &state), 32);
+}
+
+#[test]
+fn order_of_opening() {
+    let (mut medium, mut state) = formatted(4);
+    append(&mut medium, &mut state, &[(5, 1000)]);
+    assert_eq!(open(&medium, &state, 5), Ok(1000));
+    medium[256 + 64] ^= 1;
+    assert_eq!(open(&medium, &state, 6), refused(18));
+    assert_eq!(open(&medium, &state, 5), refused(6));
+    state.index[0].address = 0;
+    assert_eq!(open(&medium, &state, 5), refused(6));
+    medium[256 + 64] ^= 1;
+    state.index[0].address = 25;
+    assert_eq!(open(&medium, &state, 5), refused(6));
+    state.index[0] = Place { valve: 6, address: 24 };
+    assert_eq!(open(&medium, &state, 6), refused(6));
+}
+
+#[test]
+fn one_is_first_everywhere() {
+    let (_, mut state) = formatted(4);
+    state.blocks = 99;
+    let mut short = vec![0xFF; 12288];
+    assert_eq!(writer::format(&short), refused(1));
+    assert_eq!(begin_append(&short, &mut state, &[]), refused(1));
+    assert_eq!(writer::commit(&short, &mut state), refused(1));
+    assert_eq!(writer::collect(&short, &mut state, 99), refused(1));
+    assert_eq!(writer::step(&mut short, &mut state), refused(1));
+    assert_eq!(open(&short, &state, 5), refused(1));
+    assert_eq!(pick(&short, &state), refused(1));
+    assert_eq!(survey(&short, &state), refused(1));
+    assert_eq!(log_into(&short, &mut [], &mut []), refused(1));
+}
+
+#[test]
+fn collectible_blocks() {
+    let (mut medium, mut state) = formatted(4);
+    // Spoilt pages only: collectible. The head with pages left is not, with
+    // none left it is, unless a whole page reaches the base's first serial.
+    medium[3 * BLOCK_BYTES] = 0;
+    assert!(collectible(&medium, &state, 3));
+    state.head = 3;
+    state.next_page = 15;
+    assert!(!collectible(&medium, &state, 3));
+    state.next_page = 16;
+    assert!(collectible(&medium, &state, 3));
+    assert!(!collectible(&medium, &state, 0));
+    assert!(!collectible(&medium, &state, 1));
+    // A tie goes to the lower number; fewer live nodes win.
+    medium[2 * BLOCK_BYTES] = 0;
+    assert_eq!(pick(&medium, &state), Ok(Some(2)));
+    state.index = vec![Place { valve: 5, address: 2 * 384 }];
+    assert_eq!(pick(&medium, &state), Ok(Some(3)));
+    state.index.push(Place { valve: 6, address: 4 * 384 - 1 });
+    assert_eq!(pick(&medium, &state), Ok(Some(2)));
+    // A whole page counts by its serial, lawful or not.
+    put_page(&mut medium, 33, &lay_page(9, 9, 1, &[]));
+    assert!(!collectible(&medium, &state, 2));
+    put_page(&mut medium, 33, &lay_page(9, 9, 0, &[]));
+    assert!(collectible(&medium, &state, 2));
+}
+
+#[test]
+fn a_node_is_an_entry_below_n_of_any_whole_page() {
+    let (mut medium, mut state) = formatted(4);
+    append(&mut medium, &mut state, &[(5, 1000)]);
+    // An unlawful page, kind 1 and whole, with a key and a word past n.
+    let mut bytes = lay_page(NODES, 9, 0, &[FIVE, Entry { key: 6, word: 7 }]);
+    bytes[4] = 1;
+    writer::seal(&mut bytes);
+    put_page(&mut medium, 40, &bytes);
+    state.index[0] = Place { valve: 5, address: 40 * 24 };
+    assert_eq!(open(&medium, &state, 5), Ok(1000));
+    state.index[0] = Place { valve: 6, address: 40 * 24 + 1 };
+    assert_eq!(open(&medium, &state, 6), refused(6));
+}
