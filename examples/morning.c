@@ -11,16 +11,6 @@ static uint8_t medium[65536 + 1];
 static uint16_t keys[6144];
 static uint64_t words[6144];
 
-/* The word of a place of the index. */
-static uint64_t word_at(size_t length, uint64_t address)
-{
-    VjPart page = vj_page(medium, length, (size_t)(address / 24));
-    uint64_t word = 0;
-    for (size_t i = 8; page.length != 0 && i-- > 0;)
-        word = word << 8 | medium[page.offset + 64 + 8 * (address % 24) + i];
-    return word;
-}
-
 static int refused(unsigned number)
 {
     printf("refused %u\n", number);
@@ -46,7 +36,11 @@ int main(void)
             printf("%u -\n", (unsigned)keys[i] - 32768);
     const VjCells *set = &found.state.index;
     printf("set %zu\n", set->count);
-    for (size_t i = 0; i < set->count; i++)
-        printf("%u %" PRIu64 "\n", (unsigned)set->cells[i].key, word_at(length, set->cells[i].val));
+    for (size_t i = 0; i < set->count; i++) {
+        VjWord opening = vj_opening(medium, length, found.state, set->cells[i].key);
+        if (opening.number != 0)
+            return refused(opening.number);
+        printf("%u %" PRIu64 "\n", (unsigned)set->cells[i].key, opening.word);
+    }
     return 0;
 }

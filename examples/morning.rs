@@ -5,32 +5,35 @@
 use std::io::Read;
 
 #[repr(C)]
+#[derive(Clone, Copy)]
 struct Cell { key: u16, val: u64 }
 #[repr(C)]
+#[derive(Clone, Copy)]
 struct Cells { count: usize, cells: [Cell; 192] }
 #[repr(C)]
+#[derive(Clone, Copy)]
 struct Head { blocks: usize, block: usize, next: usize, serial: u64, base: u64 }
 #[repr(C)]
+#[derive(Clone, Copy)]
 struct State { head: Head, index: Cells, group: Cells, pages: [u16; 4], operation: u8, progress: u64 }
 #[repr(C)]
 struct Recovered { number: u8, state: State }
 #[repr(C)]
 struct Count { number: u8, count: usize }
 #[repr(C)]
-struct Part { offset: usize, length: usize }
+struct Word { number: u8, word: u64 }
 
 #[link(name = "journal_c", kind = "static")]
 extern "C" {
     fn vj_recover(m: *const u8, m_len: usize) -> Recovered;
     fn vj_log(m: *const u8, m_len: usize, keys: *mut u16, keys_len: usize, words: *mut u64, words_len: usize) -> Count;
-    fn vj_page(m: *const u8, m_len: usize, p: usize) -> Part;
+    fn vj_opening(m: *const u8, m_len: usize, state: State, valve: u16) -> Word;
 }
 
-// The word of a place of the index.
-fn word_at(m: &[u8], address: u64) -> u64 {
-    let page = unsafe { vj_page(m.as_ptr(), m.len(), address as usize / 24) };
-    let at = 64 + 8 * (address as usize % 24);
-    m[page.offset..][..page.length].get(at..at + 8).map_or(0, |bytes| u64::from_le_bytes(bytes.try_into().unwrap()))
+// The word of a valve, or the number of the refusal.
+fn opening(m: &[u8], state: State, valve: u16) -> Result<u64, u8> {
+    let opened = unsafe { vj_opening(m.as_ptr(), m.len(), state, valve) };
+    if opened.number == 0 { Ok(opened.word) } else { Err(opened.number) }
 }
 
 // The log's keys and words, and the state; or the number of the refusal.
@@ -59,7 +62,10 @@ fn main() {
             }
             println!("set {}", state.index.count);
             for c in &state.index.cells[..state.index.count] {
-                println!("{} {}", c.key, word_at(&m, c.val));
+                match opening(&m, state, c.key) {
+                    Ok(word) => println!("{} {word}", c.key),
+                    Err(number) => return println!("refused {number}"),
+                }
             }
         }
     }

@@ -1,4 +1,4 @@
-/* The valve journal for C programs: recovery, the log, and the pages of a medium.
+/* The valve journal for C programs: recovery, the log, the pages of a medium, and the readings of a state.
  *
  * A medium is a run of bytes in memory, lent to each call as a pointer and a length. It has 4 to 16 blocks of 4096 bytes; a block has 16
  * pages of 256 bytes. Every call takes a medium of any length and any content and answers; none keeps a pointer, allocates, prints or
@@ -7,14 +7,16 @@
  * A lent pointer is aligned for its type and, where its length is not 0, points to that many elements, which nobody else writes while the
  * call runs. A list that a call writes overlaps no other list that is lent to the same call.
  *
- * Numbers of refusals. 0 is no refusal; the lowest number that applies is given.
+ * Numbers of refusals. 0 is no refusal; the lowest number that applies is given, save that vj_opening gives 18 before 6.
  *   1  the medium's length is not 4 to 16 times 4096 bytes
  *   2  a whole page breaks the page rules
  *   3  two whole pages share a serial
  *   4  no complete base
  *   5  from the base on, a gap in the serials or a page out of its group
  *   6  the base's valves do not rise, over 192 valves are set, or an address of the index lacks its entry
+ *   7  the state does not fit the medium
  *  17  a lent list is too short
+ *  18  the valve is not set
  */
 #ifndef VALVE_JOURNAL_H
 #define VALVE_JOURNAL_H
@@ -85,6 +87,26 @@ typedef struct VjPart {
     size_t length; /* how many bytes it has */
 } VjPart;
 
+/* What vj_opening answers. */
+typedef struct VjWord {
+    uint8_t number; /* 0, or the number of the refusal */
+    uint64_t word;  /* the valve's word; on a refusal it means nothing */
+} VjWord;
+
+/* What vj_pick answers. */
+typedef struct VjPick {
+    uint8_t number; /* 0, or the number of the refusal */
+    uint8_t found;  /* 1 where a block is picked, else 0 */
+    uint64_t block; /* the block, from 0; where none is picked it means nothing */
+} VjPick;
+
+/* What vj_survey answers. */
+typedef struct VjSurvey {
+    uint8_t number;      /* 0, or the number of the refusal */
+    uint16_t counts[48]; /* for block b from 3 x b on: its whole, clean and spoilt pages; 0 past the last block; on a refusal they mean
+                          * nothing */
+} VjSurvey;
+
 /* Recovers the state from the medium, which stays as it is. Refuses 1 to 6. */
 VjRecovered vj_recover(const uint8_t *medium, size_t medium_length);
 
@@ -95,6 +117,18 @@ VjCount vj_log(const uint8_t *medium, size_t medium_length, uint16_t *keys, size
 /* The part of the medium that is page p, counted from 0: 256 bytes from byte 256 x p on. Where the medium, of any length, lacks one of
  * these bytes, offset and length are 0. Never refuses. */
 VjPart vj_page(const uint8_t *medium, size_t medium_length, size_t p);
+
+/* The next three calls read a state against its medium; both stay as they are. A state of any content may be given: one that does not fit
+ * the medium, or whose operation names none, is refused with 7. */
+
+/* The word of a valve. Refuses 1, 7, 18 and, where the valve's address lacks its entry, 6, in this order. */
+VjWord vj_opening(const uint8_t *medium, size_t medium_length, VjState state, uint16_t valve);
+
+/* The block to collect, if there is one. Refuses 1 and 7. */
+VjPick vj_pick(const uint8_t *medium, size_t medium_length, VjState state);
+
+/* The pages of each block, counted by what they are. Refuses 1 and 7. */
+VjSurvey vj_survey(const uint8_t *medium, size_t medium_length, VjState state);
 
 #ifdef __cplusplus
 }

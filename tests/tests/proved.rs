@@ -1,7 +1,8 @@
-//! The proved library against the second implementation, on many media: the refusal, the state and the log of each.
+//! The proved library against the second implementation, on many media: the refusal, the state and the log of each, and the readings that
+//! take a state.
 
 use journal_tests::random::{self, Random};
-use journal_tests::reader::{self, Refused, State};
+use journal_tests::reader::{self, Pending, Refused, State};
 
 #[repr(C)]
 struct VjCell {
@@ -46,10 +47,32 @@ struct VjCount {
     count: usize,
 }
 
+#[repr(C)]
+struct VjWord {
+    number: u8,
+    word: u64,
+}
+
+#[repr(C)]
+struct VjPick {
+    number: u8,
+    found: u8,
+    block: u64,
+}
+
+#[repr(C)]
+struct VjSurvey {
+    number: u8,
+    counts: [u16; 48],
+}
+
 #[link(name = "journal_c", kind = "static")]
 extern "C" {
     fn vj_recover(m: *const u8, m_len: usize) -> VjRecovered;
     fn vj_log(m: *const u8, m_len: usize, keys: *mut u16, keys_len: usize, words: *mut u64, words_len: usize) -> VjCount;
+    fn vj_opening(m: *const u8, m_len: usize, state: VjState, valve: u16) -> VjWord;
+    fn vj_pick(m: *const u8, m_len: usize, state: VjState) -> VjPick;
+    fn vj_survey(m: *const u8, m_len: usize, state: VjState) -> VjSurvey;
 }
 
 /// What the proved recovery says, in the other implementation's terms.
@@ -166,5 +189,111 @@ fn on_bytes_of_any_length() {
         let mut medium = vec![0u8; length];
         random.fill(&mut medium);
         agree(&mut random, &medium);
+    }
+}
+
+// ---------------------------------------------------------------------------
+// The readings that take a state
+
+/// A list as the library has it; what is past 192 shows in the count alone.
+fn cells(list: impl ExactSizeIterator<Item = (u16, u64)>) -> VjCells {
+    let mut cells = VjCells { count: list.len(), cells: [const { VjCell { key: 0, val: 0 } }; 192] };
+    for (cell, (key, val)) in cells.cells.iter_mut().zip(list) {
+        *cell = VjCell { key, val };
+    }
+    cells
+}
+
+/// A state of the other implementation, as the library has it.
+fn flat(s: &State) -> VjState {
+    let (mut group, mut pages) = (Vec::new(), [0; 4]);
+    let (operation, progress) = match &s.pending {
+        None => (0, 0),
+        Some(Pending::Append { entries, written }) => {
+            group.clone_from(entries);
+            for (page, &number) in pages.iter_mut().zip(written) {
+                *page = number as u16;
+            }
+            (1, written.len() as u64)
+        }
+        Some(Pending::Commit { done }) => (2, *done),
+        Some(Pending::Collect { block }) => (3, *block as u64),
+        Some(Pending::Format { erased }) => (4, *erased as u64),
+    };
+    VjState {
+        head: VjHead { blocks: s.blocks, block: s.head, next: s.next_page, serial: s.next_serial, base: s.first_base_serial },
+        index: cells(s.index.iter().map(|place| (place.valve, place.address))),
+        group: cells(group.iter().map(|entry| (entry.key, entry.word))),
+        pages,
+        operation,
+        progress,
+    }
+}
+
+fn answer<T>(number: u8, value: T) -> Result<T, Refused> {
+    if number == 0 { Ok(value) } else { Err(Refused(number)) }
+}
+
+fn opening(medium: &[u8], state: VjState, valve: u16) -> Result<u64, Refused> {
+    let r = unsafe { vj_opening(medium.as_ptr(), medium.len(), state, valve) };
+    answer(r.number, r.word)
+}
+
+fn pick(medium: &[u8], state: VjState) -> Result<Option<usize>, Refused> {
+    let r = unsafe { vj_pick(medium.as_ptr(), medium.len(), state) };
+    answer(r.number, (r.found != 0).then_some(r.block as usize))
+}
+
+fn survey(medium: &[u8], state: VjState) -> Result<[[u32; 3]; 16], Refused> {
+    let r = unsafe { vj_survey(medium.as_ptr(), medium.len(), state) };
+    answer(r.number, std::array::from_fn(|block| std::array::from_fn(|column| u32::from(r.counts[3 * block + column]))))
+}
+
+#[test]
+fn readings_of_states_fit_and_unfit() {
+    let mut random = Random::new(46);
+    let mut seen = [0u32; 19];
+    let mut picked = 0;
+    for turn in 0..2000 {
+        let life = random::lived(&mut random, turn % 300);
+        let mut medium = life.medium;
+        let Some(mut state) = life.state else { continue };
+        if random.one_in(2) {
+            random::damage_state(&mut random, &mut state);
+        }
+        if random.one_in(3) && medium.len() >= 256 {
+            random::damage(&mut random, &mut medium);
+        }
+        assert_eq!(pick(&medium, flat(&state)), reader::pick(&medium, &state));
+        picked += u32::from(matches!(reader::pick(&medium, &state), Ok(Some(_))));
+        assert_eq!(survey(&medium, flat(&state)), reader::survey(&medium, &state));
+        for _ in 0..10 {
+            let set = random.below(state.index.len() + 1);
+            let valve = state.index.get(set).map_or(random.bits() as u16, |place| place.valve);
+            let expected = reader::open(&medium, &state, valve);
+            assert_eq!(opening(&medium, flat(&state), valve), expected);
+            seen[expected.map_or_else(|refused| refused.0, |_| 0) as usize] += 1;
+        }
+    }
+    assert!([0, 1, 6, 7, 18].iter().all(|&number| seen[number] >= 20), "each answer comes often: {seen:?}");
+    assert!(picked >= 20, "a block is picked often: {picked}");
+}
+
+#[test]
+fn an_operation_code_that_names_none_is_7_after_1() {
+    let mut random = Random::new(47);
+    for code in [5, 6, 255] {
+        let medium = random::medium(&mut random);
+        let state = || {
+            let mut state = flat(&reader::recover(&medium).expect("a recovery"));
+            state.operation = code;
+            state
+        };
+        assert_eq!(pick(&medium, state()), Err(Refused(7)));
+        assert_eq!(survey(&medium, state()), Err(Refused(7)));
+        assert_eq!(opening(&medium, state(), 5), Err(Refused(7)));
+        assert_eq!(pick(&medium[1..], state()), Err(Refused(1)));
+        assert_eq!(survey(&medium[1..], state()), Err(Refused(1)));
+        assert_eq!(opening(&medium[1..], state(), 5), Err(Refused(1)));
     }
 }

@@ -1,19 +1,23 @@
 -- Laws of the flat structs, in the shapes that the code's proofs ask.
 use mathlib.Core.Path.{_≡_, refl, sym, ap, _∙_}
-use mathlib.Core.Bool.{Bool, true, false, cond, _&&_}
-use mathlib.Core.Option.{none, some}
+use mathlib.Core.Bool.{Bool, true, false, cond, not, _&&_}
+use mathlib.Core.Option.{Option, none, some}
 use mathlib.Core.List.{List, [], _∷_}
-use Prim.Native.Nat.{ℕ, _+_, _*_, _/_, _≤_, _<_}
+use Prim.Native.Nat.{ℕ, _+_, _*_, _/_, _%_, _≤_, _<_}
 use native.Mathlib.Omega.{arith}
-use lib.ListN.{length}
+use native.Mathlib.Decide.{decLt}
+use lib.ListN.{length, getD, set, length-set}
+use lib.Seq.{ext-getD, getD-set-same, getD-set-other}
 use lib.Dec.{eqb, leb}
-use borrow.Author.Tests.{ne-eqb, le-leb, lt-leb, leb-true}
-use Rattle.lists.specs.Lists.{valueOr}
+use borrow.Author.Tests.{ne-eqb, le-leb, lt-leb, leb-true, not-true, not-false}
+use Rattle.lists.specs.Lists.{valueOr, table}
 use Rattle.lists.specs.Cells.{Entry, keysOf, wordsOf}
 use Rattle.codec.specs.Codec.{putAt}
 use Rattle.lists.specs.Needs.{Need, need, checked}
-use Rattle.lists.proofs.Laws.{by-cases, and-l, and-r}
+use Rattle.lists.proofs.Laws.{by-cases, and-l, and-r, length-table, get-table}
 use Rattle.flash.specs.Medium.{views, pageAt}
+use Rattle.nodes.specs.Nodes.{wordAt, pickBelow}
+use Rattle.blocks.specs.Blocks.{sizeOk}
 use Rattle.page.specs.Pages.{View}
 use Rattle.state.specs.declared.State.{State}
 use Rattle.state.specs.declared.Operation.{Operation}
@@ -25,11 +29,16 @@ use Rattle.recover.specs.Told as told
 use Rattle.recover.specs.Told.{Told, tell, Tells}
 use Rattle.read.specs.declared.Logged.{Logged}
 use Rattle.read.specs.declared.Logged.the-variants.{Refused, Changes}
-use Rattle.read.specs.Answers.{logRead}
-use Rattle.readings.specs.Readings.{LogRead, Answer, changes, unread, longEnough, readInto, readLog}
+use Rattle.read.specs.declared.Opened.{Opened}
+use Rattle.read.specs.declared.Opened.the-variants as opened
+use Rattle.read.specs.declared.Picked.{Picked}
+use Rattle.read.specs.declared.Picked.the-variants as picked
+use Rattle.read.specs.Answers.{logRead, openedOf, pickedOf, surveyedOf}
+use Rattle.readings.specs.Readings.{LogRead, Answer, changes, unread, longEnough, readInto, readLog, Opening, word, openingNeeds, openingOf, placeOf, Pick, nothing, block, pickedBlock, stateNeeds, pickOf, counts, surveyOf}
 use Rattle.journal_c.specs.declared.Named.{Named}
 use Rattle.journal_c.specs.declared.VjState.{VjState}
-use Rattle.journal_c.specs.Flat.{operationOf, namedBy, heldWith, heldBy, heldIn, Found, found, stateIn, foundBy, answerBy, logBy, IsPage}
+use Rattle.journal_c.specs.declared.Lent.{Lent}
+use Rattle.journal_c.specs.Flat.{operationOf, namedBy, heldWith, heldBy, heldIn, Found, found, stateIn, foundBy, answerBy, logBy, IsPage, numberUnknown, openingLent, openingBy, pickLent, pickBy, surveyLent, joined, Joined, joinedIn, surveyBy}
 
 -- ---- the state
 
@@ -176,3 +185,191 @@ page-in m p h = let l : 256 * p + 256 ≤ length m = omega arith in record { byt
 pub page-out : (m : List ℕ) (p : ℕ) → length m / 256 ≤ p → IsPage m p (record { offset = 0; length = 0 })
 unfolding pageAt
 page-out m p h = let l : length m < 256 * p + 256 = omega arith in record { bytes = rw (lt-leb _ _ l); start = rw (lt-leb _ _ l); size = rw (lt-leb _ _ l) }
+
+-- ---- the readings of a lent state
+
+module _ (n : ℕ) (b : Bool) (e : b ≡ sizeOk n) where
+  pub unknown-size : not b ≡ true → 1 ≡ numberUnknown n
+  unfolding numberUnknown checked
+  unknown-size q = rw (← e, not-true b q)
+
+  pub unknown-state : not b ≡ false → 7 ≡ numberUnknown n
+  unfolding numberUnknown checked
+  unknown-state q = rw (← e, not-false b q)
+
+-- an unknown operation is refused by a number that is not 0
+unknown-says : (n : ℕ) → 1 ≤ numberUnknown n
+unfolding numberUnknown checked
+unknown-says n = by-cases (sizeOk n) (λ h. rw h (omega arith)) (λ h. rw h (omega arith))
+
+module _ (f : VjState) (l : Lent) (e : heldIn l ≡ heldBy f) where
+  lent-none : not (l .known) ≡ true → heldBy f ≡ none
+  unfolding heldIn
+  lent-none q = sym e ∙ ap (λ (b : Bool). cond b (some (meaning (l .state))) none) (not-true (l .known) q)
+
+  lent-some : not (l .known) ≡ false → heldBy f ≡ some (meaning (l .state))
+  unfolding heldIn
+  lent-some q = sym e ∙ ap (λ (b : Bool). cond b (some (meaning (l .state))) none) (not-false (l .known) q)
+
+-- ---- the opening of a valve
+
+opening-turned : (n w : ℕ) → 1 ≤ n → openingBy (record { number = n; word = w }) ≡ Opening.turnedBack n
+unfolding openingBy
+opening-turned n w h = rw (ne-eqb n 0 (λ q. absurd (omega (arith, h, q))))
+
+opening-word : (w : ℕ) → openingBy (record { number = 0; word = w }) ≡ word w
+unfolding openingBy
+opening-word w = refl
+
+opening-none : (n : ℕ) (v : List View) (valve : ℕ) → openingLent n v none valve ≡ Opening.turnedBack (numberUnknown n)
+unfolding openingLent numberUnknown checked
+opening-none n v valve = by-cases (sizeOk n) (λ h. rw h) (λ h. rw h)
+
+opening-some : (n : ℕ) (v : List View) (s : Held) (valve : ℕ) → openingLent n v (some s) valve ≡ openingOf n v s valve
+unfolding openingLent
+opening-some n v s valve = refl
+
+abbrev SaysOpening : Opening → Type 0
+SaysOpening o = (k : ℕ) → o ≡ Opening.turnedBack k → 1 ≤ k
+
+opening-says : (n : ℕ) (v : List View) (s : Held) (valve : ℕ) → SaysOpening (openingOf n v s valve)
+unfolding openingOf numbered
+opening-says n v s valve =
+    by-number SaysOpening Opening.turnedBack (openingNeeds n v s valve) (word (valueOr 0 (wordAt v (placeOf s valve)))) refl
+    (λ j h k e. let z : j ≡ k = cc in omega arith)
+    (λ k e. let z : _≡_ {A = ℕ} 0 1 = cc in absurd (omega arith))
+
+module _ (m : List ℕ) (f : VjState) (l : Lent) (e : heldIn l ≡ heldBy f) (valve : ℕ) where
+  pub opening-unknown : (u : ℕ) → not (l .known) ≡ true → u ≡ numberUnknown (length m) → openingBy (record { number = u; word = 0 }) ≡ openingLent (length m) (views m) (heldBy f) valve
+  opening-unknown u q z =
+      ap (λ (k : ℕ). openingBy (record { number = k; word = 0 })) z
+      ∙ opening-turned (numberUnknown (length m)) 0 (unknown-says (length m))
+      ∙ sym (opening-none (length m) (views m) valve)
+      ∙ ap (λ (o : Option Held). openingLent (length m) (views m) o valve) (sym (lent-none f l e q))
+
+  module _ (q : not (l .known) ≡ false) (r : Opened) (g : openedOf r ≡ openingOf (length m) (views m) (meaning (l .state)) valve) where
+    opening-lent : openedOf r ≡ openingLent (length m) (views m) (heldBy f) valve
+    opening-lent = g ∙ sym (opening-some (length m) (views m) (meaning (l .state)) valve) ∙ ap (λ (o : Option Held). openingLent (length m) (views m) o valve) (sym (lent-some f l e q))
+
+    pub opening-refuses : (n : ℕ) → r ≡ opened.Refused n → openingBy (record { number = n; word = 0 }) ≡ openingLent (length m) (views m) (heldBy f) valve
+    opening-refuses n h =
+        let z : 1 ≤ n = opening-says (length m) (views m) (meaning (l .state)) valve n (sym g ∙ ap openedOf h) in
+        opening-turned n 0 z ∙ sym (ap openedOf h) ∙ opening-lent
+
+    pub opening-tells : (w : ℕ) → r ≡ opened.Word w → openingBy (record { number = 0; word = w }) ≡ openingLent (length m) (views m) (heldBy f) valve
+    opening-tells w h = opening-word w ∙ sym (ap openedOf h) ∙ opening-lent
+
+-- ---- the picker
+
+pick-turned : (n b k : ℕ) → 1 ≤ n → pickBy (record { number = n; found = b; block = k }) ≡ Pick.turnedBack n
+unfolding pickBy
+pick-turned n b k h = rw (ne-eqb n 0 (λ q. absurd (omega (arith, h, q))))
+
+pick-by-none : pickBy (record { number = 0; found = 0; block = 0 }) ≡ nothing
+unfolding pickBy
+pick-by-none = refl
+
+pick-by-block : (b : ℕ) → pickBy (record { number = 0; found = 1; block = b }) ≡ block b
+unfolding pickBy
+pick-by-block b = refl
+
+pick-none : (n : ℕ) (v : List View) → pickLent n v none ≡ Pick.turnedBack (numberUnknown n)
+unfolding pickLent numberUnknown checked
+pick-none n v = by-cases (sizeOk n) (λ h. rw h) (λ h. rw h)
+
+pick-some : (n : ℕ) (v : List View) (s : Held) → pickLent n v (some s) ≡ pickOf n v s
+unfolding pickLent
+pick-some n v s = refl
+
+abbrev SaysPick : Pick → Type 0
+SaysPick o = (k : ℕ) → o ≡ Pick.turnedBack k → 1 ≤ k
+
+picked-says : (o : Option ℕ) → SaysPick (pickedBlock o)
+picked-says none k e = let z : _≡_ {A = ℕ} 0 1 = cc in absurd (omega arith)
+picked-says (some b) k e = let z : _≡_ {A = ℕ} 0 1 = cc in absurd (omega arith)
+
+pick-says : (n : ℕ) (v : List View) (s : Held) → SaysPick (pickOf n v s)
+unfolding pickOf numbered
+pick-says n v s =
+    by-number SaysPick Pick.turnedBack (stateNeeds n v s) (pickedBlock (pickBelow v (s .head) (s .index) (s .head .blocks))) refl
+    (λ j h k e. let z : j ≡ k = cc in omega arith)
+    (picked-says (pickBelow v (s .head) (s .index) (s .head .blocks)))
+
+module _ (m : List ℕ) (f : VjState) (l : Lent) (e : heldIn l ≡ heldBy f) where
+  pub pick-unknown : (u : ℕ) → not (l .known) ≡ true → u ≡ numberUnknown (length m) → pickBy (record { number = u; found = 0; block = 0 }) ≡ pickLent (length m) (views m) (heldBy f)
+  pick-unknown u q z =
+      ap (λ (k : ℕ). pickBy (record { number = k; found = 0; block = 0 })) z
+      ∙ pick-turned (numberUnknown (length m)) 0 0 (unknown-says (length m))
+      ∙ sym (pick-none (length m) (views m))
+      ∙ ap (λ (o : Option Held). pickLent (length m) (views m) o) (sym (lent-none f l e q))
+
+  module _ (q : not (l .known) ≡ false) (r : Picked) (g : pickedOf r ≡ pickOf (length m) (views m) (meaning (l .state))) where
+    pick-lent : pickedOf r ≡ pickLent (length m) (views m) (heldBy f)
+    pick-lent = g ∙ sym (pick-some (length m) (views m) (meaning (l .state))) ∙ ap (λ (o : Option Held). pickLent (length m) (views m) o) (sym (lent-some f l e q))
+
+    pub pick-refuses : (n : ℕ) → r ≡ picked.Refused n → pickBy (record { number = n; found = 0; block = 0 }) ≡ pickLent (length m) (views m) (heldBy f)
+    pick-refuses n h =
+        let z : 1 ≤ n = pick-says (length m) (views m) (meaning (l .state)) n (sym g ∙ ap pickedOf h) in
+        pick-turned n 0 0 z ∙ sym (ap pickedOf h) ∙ pick-lent
+
+    pub pick-nothing : r ≡ picked.Nothing → pickBy (record { number = 0; found = 0; block = 0 }) ≡ pickLent (length m) (views m) (heldBy f)
+    pick-nothing h = pick-by-none ∙ sym (ap pickedOf h) ∙ pick-lent
+
+    pub pick-tells : (b : ℕ) → r ≡ picked.Block b → pickBy (record { number = 0; found = 1; block = b }) ≡ pickLent (length m) (views m) (heldBy f)
+    pick-tells b h = pick-by-block b ∙ sym (ap pickedOf h) ∙ pick-lent
+
+-- ---- the survey
+
+-- the first i counts stand in xs
+pub record JoinedTo (rows : List (List ℕ)) (xs : List ℕ) (i : ℕ) : Type 0 where
+  pub long : length xs ≡ 48
+  pub so : (k : ℕ) → k < i → getD xs k 0 ≡ getD (getD rows (k / 3) []) (k % 3) 0
+
+pub joined-start : (rows : List (List ℕ)) (xs : List ℕ) → length xs ≡ 48 → JoinedTo rows xs 0
+joined-start rows xs l = record { long = l; so = λ i h. absurd (omega arith) }
+
+pub joined-next : (rows : List (List ℕ)) (xs : List ℕ) (i : ℕ) → i < 48 → JoinedTo rows xs i → JoinedTo rows (set xs i (getD (getD rows (i / 3) []) (i % 3) 0)) (i + 1)
+joined-next rows xs i h t = record { long = length-set xs i (getD (getD rows (i / 3) []) (i % 3) 0) ∙ t .long; so = λ k l. go k l (decLt k i) }
+  where
+    go : (k : ℕ) → k < i + 1 → Dec (k < i) → getD (set xs i (getD (getD rows (i / 3) []) (i % 3) 0)) k 0 ≡ getD (getD rows (k / 3) []) (k % 3) 0
+    go k l (yes g) = getD-set-other xs i k (getD (getD rows (i / 3) []) (i % 3) 0) 0 (λ x. omega arith) ∙ t .so k g
+    go k l (no g) = let x : k ≡ i = omega arith in rw x (getD-set-same xs i (getD (getD rows (i / 3) []) (i % 3) 0) 0 (omega (arith, t .long)))
+
+pub joined-end : (rows : List (List ℕ)) (xs : List ℕ) (i : ℕ) → 48 ≤ i → JoinedTo rows xs i → xs ≡ joined rows
+unfolding joined
+joined-end rows xs i h t =
+    ext-getD 0 xs (table 48 (λ k. getD (getD rows (k / 3) []) (k % 3) 0)) (t .long ∙ sym (length-table (λ k. getD (getD rows (k / 3) []) (k % 3) 0) 0 48))
+    (λ k l. t .so k (omega (arith, t .long)) ∙ sym (get-table (λ j. getD (getD rows (j / 3) []) (j % 3) 0) 0 48 k (omega (arith, t .long))))
+
+survey-turned : (n : ℕ) (xs : List ℕ) → 1 ≤ n → surveyBy (record { number = n; counts = xs }) ≡ Joined.turnedBack n
+unfolding surveyBy
+survey-turned n xs h = rw (ne-eqb n 0 (λ q. absurd (omega (arith, h, q))))
+
+survey-none : (n : ℕ) (v : List View) → joinedIn (surveyLent n v none) ≡ Joined.turnedBack (numberUnknown n)
+unfolding surveyLent numberUnknown checked joinedIn
+survey-none n v = by-cases (sizeOk n) (λ h. rw h) (λ h. rw h)
+
+survey-some : (n : ℕ) (v : List View) (s : Held) → surveyLent n v (some s) ≡ surveyOf n v s
+unfolding surveyLent
+survey-some n v s = refl
+
+survey-joined : (n : ℕ) (rows : List (List ℕ)) → surveyBy (record { number = n; counts = joined rows }) ≡ joinedIn (surveyedOf n rows)
+unfolding surveyBy joinedIn
+survey-joined n rows = by-cases (eqb n 0) (λ h. rw h) (λ h. rw h)
+
+module _ (m : List ℕ) (f : VjState) (l : Lent) (e : heldIn l ≡ heldBy f) where
+  pub survey-unknown : (u : ℕ) (xs : List ℕ) → not (l .known) ≡ true → u ≡ numberUnknown (length m)
+      → surveyBy (record { number = u; counts = xs }) ≡ joinedIn (surveyLent (length m) (views m) (heldBy f))
+  survey-unknown u xs q z =
+      ap (λ (k : ℕ). surveyBy (record { number = k; counts = xs })) z
+      ∙ survey-turned (numberUnknown (length m)) xs (unknown-says (length m))
+      ∙ sym (survey-none (length m) (views m))
+      ∙ ap (λ (o : Option Held). joinedIn (surveyLent (length m) (views m) o)) (sym (lent-none f l e q))
+
+  pub survey-tells : (n : ℕ) (rows : List (List ℕ)) (xs : List ℕ) → not (l .known) ≡ false → surveyedOf n rows ≡ surveyOf (length m) (views m) (meaning (l .state)) → xs ≡ joined rows
+      → surveyBy (record { number = n; counts = xs }) ≡ joinedIn (surveyLent (length m) (views m) (heldBy f))
+  survey-tells n rows xs q g z =
+      ap (λ (x : List ℕ). surveyBy (record { number = n; counts = x })) z
+      ∙ survey-joined n rows
+      ∙ ap joinedIn (g ∙ sym (survey-some (length m) (views m) (meaning (l .state))))
+      ∙ ap (λ (o : Option Held). joinedIn (surveyLent (length m) (views m) o)) (sym (lent-some f l e q))

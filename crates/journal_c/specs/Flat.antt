@@ -1,25 +1,32 @@
 -- What the flat structs say.
 use mathlib.Core.Path.{_≡_}
-use mathlib.Core.Bool.{cond}
+use mathlib.Core.Bool.{cond, false}
 use mathlib.Core.Option.{Option, none, some}
-use mathlib.Core.List.{List}
-use Prim.Native.Nat.{ℕ, _+_, _*_}
-use lib.ListN.{length}
+use mathlib.Core.List.{List, [], _∷_}
+use Prim.Native.Nat.{ℕ, _+_, _*_, _/_, _%_}
+use lib.ListN.{length, getD}
 use lib.Dec.{eqb, leb}
+use Rattle.lists.specs.Lists.{table}
+use Rattle.lists.specs.Needs.{Need, need, checked}
 use Rattle.lists.specs.Cells.{listed}
 use Rattle.codec.specs.Codec.{part}
+use Rattle.page.specs.Pages.{View}
 use Rattle.flash.specs.Medium.{pageAt}
+use Rattle.blocks.specs.Blocks.{sizeOk}
 use Rattle.state.specs.declared.Operation.{Operation}
 use Rattle.state.specs.declared.Operation.the-variants.{Idle, Append, Commit, Collect, Format}
 use Rattle.state.specs.State.{Held, held, pendingOf, meaning}
 use Rattle.recovery.specs.Recovery.{Recovery, refused, recovered}
-use Rattle.readings.specs.Readings.{LogRead, Answer, changes}
+use Rattle.readings.specs.Readings.{LogRead, Answer, changes, Opening, word, openingOf, Pick, nothing, block, pickOf, Survey, counts, surveyOf}
 use Rattle.journal_c.specs.declared.Named.{Named}
 use Rattle.journal_c.specs.declared.Lent.{Lent}
 use Rattle.journal_c.specs.declared.VjState.{VjState}
 use Rattle.journal_c.specs.declared.VjRecovered.{VjRecovered}
 use Rattle.journal_c.specs.declared.VjCount.{VjCount}
 use Rattle.journal_c.specs.declared.VjPart.{VjPart}
+use Rattle.journal_c.specs.declared.VjWord.{VjWord}
+use Rattle.journal_c.specs.declared.VjPick.{VjPick}
+use Rattle.journal_c.specs.declared.VjSurvey.{VjSurvey}
 
 -- ---- the state
 
@@ -84,3 +91,49 @@ pub record IsPage (m : List ℕ) (p : ℕ) (r : VjPart) : Type 0 where
   pub bytes : part (r .offset) (r .length) m ≡ pageAt m p
   pub start : r .offset ≡ cond (leb (256 * p + 256) (length m)) (256 * p) 0
   pub size : r .length ≡ cond (leb (256 * p + 256) (length m)) 256 0
+
+-- ---- the readings of a lent state
+
+-- a state whose code names no operation counts under condition 7
+abbrev pub unknownNeeds : ℕ → List Need
+unknownNeeds n = need 1 (sizeOk n) ∷ need 7 false ∷ []
+
+-- the number of its refusal
+unfoldable pub numberUnknown : ℕ → ℕ
+numberUnknown n = checked (λ k. k) (unknownNeeds n) 0
+
+-- the opening of a valve
+unfoldable pub openingLent : ℕ → List View → Option Held → ℕ → Opening
+openingLent n v none valve = checked Opening.turnedBack (unknownNeeds n) (word 0)
+openingLent n v (some s) valve = openingOf n v s valve
+
+unfoldable pub openingBy : VjWord → Opening
+openingBy r = cond (eqb (r .number) 0) (word (r .word)) (Opening.turnedBack (r .number))
+
+-- the picker; found is 1 where a block is picked
+unfoldable pub pickLent : ℕ → List View → Option Held → Pick
+pickLent n v none = checked Pick.turnedBack (unknownNeeds n) nothing
+pickLent n v (some s) = pickOf n v s
+
+unfoldable pub pickBy : VjPick → Pick
+pickBy r = cond (eqb (r .number) 0) (cond (eqb (r .found) 1) (block (r .block)) nothing) (Pick.turnedBack (r .number))
+
+-- the survey
+unfoldable pub surveyLent : ℕ → List View → Option Held → Survey
+surveyLent n v none = checked Survey.turnedBack (unknownNeeds n) (counts [])
+surveyLent n v (some s) = surveyOf n v s
+
+-- sixteen rows of three counts, one row after another
+unfoldable pub joined : List (List ℕ) → List ℕ
+joined rows = table 48 (λ i. getD (getD rows (i / 3) []) (i % 3) 0)
+
+pub data Joined : Type 0 where
+  turnedBack : ℕ → Joined
+  inOne : List ℕ → Joined
+
+unfoldable pub joinedIn : Survey → Joined
+joinedIn (Survey.turnedBack n) = Joined.turnedBack n
+joinedIn (counts rows) = inOne (joined rows)
+
+unfoldable pub surveyBy : VjSurvey → Joined
+surveyBy r = cond (eqb (r .number) 0) (inOne (r .counts)) (Joined.turnedBack (r .number))
