@@ -2,7 +2,8 @@
 //! take a state.
 
 use journal_tests::random::{self, Random};
-use journal_tests::reader::{self, Pending, Refused, State};
+use journal_tests::reader::{self, Entry, Pending, Refused, State};
+use journal_tests::writer;
 
 #[repr(C)]
 struct VjCell {
@@ -296,4 +297,50 @@ fn an_operation_code_that_names_none_is_7_after_1() {
         assert_eq!(survey(&medium[1..], state()), Err(Refused(1)));
         assert_eq!(opening(&medium[1..], state(), 5), Err(Refused(1)));
     }
+}
+
+// ---------------------------------------------------------------------------
+// The small examples of the document that concern reading
+
+/// A medium of 4 blocks with these pages from page 0 on.
+fn laid(pages: &[[u8; 256]]) -> Vec<u8> {
+    let mut medium = vec![0xFF; 16384];
+    for (number, page) in pages.iter().enumerate() {
+        writer::put_page(&mut medium, number, page);
+    }
+    medium
+}
+
+fn page(kind: u8, flags: u8, serial: u64, entries: &[(u16, u64)]) -> [u8; 256] {
+    let entries: Vec<Entry> = entries.iter().map(|&(key, word)| Entry { key, word }).collect();
+    writer::lay_page(kind, flags, serial, &entries)
+}
+
+#[test]
+fn small_examples() {
+    let base = page(2, 3, 1, &[]);
+    let formatted = laid(&[base]);
+    assert_eq!(recover(&vec![0xFF; 12288]), Err(Refused(1)));
+    assert_eq!(recover(&laid(&[base, page(9, 3, 2, &[(5, 1000)])])), Err(Refused(2)));
+    assert_eq!(recover(&laid(&[base, base])), Err(Refused(3)));
+    assert_eq!(recover(&laid(&[])), Err(Refused(4)));
+    assert_eq!(recover(&laid(&[base, page(1, 3, 2, &[(5, 1000)]), page(1, 3, 4, &[(5, 1000)])])), Err(Refused(5)));
+    assert_eq!(recover(&laid(&[page(2, 3, 1, &[(5, 0)])])), Err(Refused(6)));
+
+    let morning = laid(&[base, page(1, 3, 2, &[(5, 1000), (7, 20)]), page(1, 3, 3, &[(32773, 0)])]);
+    assert_eq!(log(&morning, 2, 3), (Err(Refused(17)), vec![9; 2], vec![9; 3]));
+    assert_eq!(log(&morning, 4, 3), (Ok(3), vec![5, 7, 32773, 9], vec![1000, 20, 0]));
+    let state = recover(&morning).expect("a recovery");
+    assert_eq!(opening(&morning, flat(&state), 7), Ok(20));
+    assert_eq!(opening(&morning, flat(&state), 5), Err(Refused(18)));
+
+    let state = recover(&formatted).expect("a recovery");
+    assert_eq!(opening(&formatted, flat(&state), 5), Err(Refused(18)));
+    assert_eq!(pick(&formatted, flat(&state)), Ok(None));
+    let rows = survey(&formatted, flat(&state)).expect("a survey");
+    assert_eq!(rows[..5], [[1, 15, 0], [0, 16, 0], [0, 16, 0], [0, 16, 0], [0, 0, 0]]);
+    let five_blocks = [formatted, vec![0xFF; 4096]].concat();
+    assert_eq!(opening(&five_blocks, flat(&state), 5), Err(Refused(7)));
+    assert_eq!(pick(&five_blocks, flat(&state)), Err(Refused(7)));
+    assert_eq!(survey(&five_blocks, flat(&state)), Err(Refused(7)));
 }
