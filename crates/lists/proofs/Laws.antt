@@ -32,10 +32,6 @@ and-r false b h = let z : _≡_ {A = ℕ} 0 1 = cc in absurd (omega arith)
 pub and-both : {a b : Bool} → a ≡ true → b ≡ true → (a && b) ≡ true
 and-both p q = rw (p, q)
 
-pub or-cases : {P : Type 0} (a b : Bool) → (a || b) ≡ true → (a ≡ true → P) → (b ≡ true → P) → P
-or-cases true b h f g = f refl
-or-cases false b h f g = g h
-
 pub true-false : {P : Type 0} {b : Bool} → b ≡ true → b ≡ false → P
 true-false p q = let z : _≡_ {A = ℕ} 0 1 = cc in absurd (omega arith)
 
@@ -53,19 +49,6 @@ module _ {A : Type 0} (f : A → Bool) where
   pub all-cons : (x : A) (xs : List A) → f x ≡ true → all f xs ≡ true → all f (x ∷ xs) ≡ true
   unfolding all
   all-cons x xs p q = and-both p q
-
-  pub all-append : (xs ys : List A) → all f xs ≡ true → all f ys ≡ true → all f (xs ++ ys) ≡ true
-  all-append [] ys p q = q
-  all-append (x ∷ xs) ys p q = all-cons x (xs ++ ys) (all-head x xs p) (all-append xs ys (all-tail x xs p) q)
-
-  pub all-left : (xs ys : List A) → all f (xs ++ ys) ≡ true → all f xs ≡ true
-  unfolding all
-  all-left [] ys p = refl
-  all-left (x ∷ xs) ys p = all-cons x xs (all-head x (xs ++ ys) p) (all-left xs ys (all-tail x (xs ++ ys) p))
-
-  pub all-right : (xs ys : List A) → all f (xs ++ ys) ≡ true → all f ys ≡ true
-  all-right [] ys p = p
-  all-right (x ∷ xs) ys p = all-right xs ys (all-tail x (xs ++ ys) p)
 
   pub all-take : (n : ℕ) (xs : List A) → all f xs ≡ true → all f (take n xs) ≡ true
   unfolding all
@@ -90,11 +73,6 @@ module _ {A : Type 0} (f : A → Bool) where
       mid : (a b c : Bool) → (a && (b && c)) ≡ ((a && b) && c)
       mid true b c = refl
       mid false b c = refl
-
-  pub all-at : (xs : List A) (i : ℕ) (d : A) → i < length xs → all f xs ≡ true → f (getD xs i d) ≡ true
-  all-at [] i d h a = absurd (omega arith)
-  all-at (x ∷ xs) zero d h a = all-head x xs a
-  all-at (x ∷ xs) (suc i) d h a = all-at xs i d (omega arith) (all-tail x xs a)
 
   -- a test of a table is a scan
   pub all-table : (n : ℕ) (g : ℕ → A) → all f (table n g) ≡ allBelow n (λ i. f (g i))

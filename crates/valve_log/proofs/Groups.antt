@@ -163,11 +163,6 @@ unfolding lay all opposite isBegin
 lay-begins kind es k s [] h = refl
 lay-begins kind es k s (p ∷ ps) h = rw (begins-page kind es k s, ne-eqb k 0 (λ z. omega arith)) (lay-begins kind es (suc k) (suc s) ps (omega arith))
 
-pub lay-consecutive : (kind : ℕ) (es : List Entry) (k s : ℕ) (ps : List ℕ) → consecutive s (lay kind es k s ps) ≡ true
-unfolding lay consecutive groupPage
-lay-consecutive kind es k s [] = refl
-lay-consecutive kind es k s (p ∷ ps) = rw (eq-eqb s s refl) (lay-consecutive kind es (suc k) (suc s) ps)
-
 -- ---- what the walk makes of a page of a group
 
 -- what is written of a group of this kind: nothing yet, or the group that the walk is inside

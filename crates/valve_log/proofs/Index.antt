@@ -208,7 +208,7 @@ rising-head : (n : ℕ) (x : Cell) (l : List Cell) → risingFrom n (x ∷ l) �
 unfolding risingFrom
 rising-head n x l r = leb-true n (x .key) (and-l (leb n (x .key)) (risingFrom (suc (x .key)) l) r)
 
-rising-tail : (n : ℕ) (x : Cell) (l : List Cell) → risingFrom n (x ∷ l) ≡ true → risingFrom (suc (x .key)) l ≡ true
+pub rising-tail : (n : ℕ) (x : Cell) (l : List Cell) → risingFrom n (x ∷ l) ≡ true → risingFrom (suc (x .key)) l ≡ true
 unfolding risingFrom
 rising-tail n x l r = and-r (leb n (x .key)) (risingFrom (suc (x .key)) l) r
 

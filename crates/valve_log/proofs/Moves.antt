@@ -14,15 +14,11 @@ use Rattle.lists.specs.Cells.{cell, Place}
 use Rattle.lists.proofs.Laws.{by-cases, and-r, all-head, all-tail, all-keep}
 use Rattle.index.specs.Index.{put, risingFrom, rising, assign, assignAll}
 use Rattle.nodes.specs.Nodes.{inBlock, insertByAddress, byAddress, live}
-use Rattle.valve_log.proofs.Index.{valves, nodes, In, first, later, all-in, in-all, in-above, in-keep, in-insert, in-sorted, in-take, assign-rising}
+use Rattle.valve_log.proofs.Index.{valves, nodes, rising-tail, In, first, later, all-in, in-all, in-above, in-keep, in-insert, in-sorted, in-take, assign-rising}
 
 in-cases : {x y : Cell} {l : List Cell} → In x (y ∷ l) → (x ≡ y) ⊎ In x l
 in-cases first = inl refl
 in-cases (later i) = inr i
-
-rising-rest : (n : ℕ) (x : Cell) (l : List Cell) → risingFrom n (x ∷ l) ≡ true → risingFrom (suc (x .key)) l ≡ true
-unfolding risingFrom
-rising-rest n x l r = and-r (leb n (x .key)) (risingFrom (suc (x .key)) l) r
 
 -- ---- keys that occur once
 
@@ -34,7 +30,7 @@ pub data Unique : List Cell → Type 0 where
 unique-rising : (n : ℕ) (l : List Cell) → risingFrom n l ≡ true → Unique l
 unique-rising n [] r = nil
 unique-rising n (x ∷ l) r =
-    let t = rising-rest n x l r in
+    let t = rising-tail n x l r in
     cons (λ y i e. away y e (in-above (suc (x .key)) t i)) (unique-rising (suc (x .key)) l t)
   where
     away : (y : Cell) → y .key ≡ x .key → suc (x .key) ≤ y .key → ⊥
@@ -117,7 +113,7 @@ unfolding put keep
 put-out b n k a a′ (y ∷ l) r i t f = go (in-cases i) (λ j. put-out b (suc (y .key)) k a a′ l rest j t f)
   where
     rest : risingFrom (suc (y .key)) l ≡ true
-    rest = rising-rest n y l r
+    rest = rising-tail n y l r
 
     go : (cell k a ≡ y) ⊎ In (cell k a) l → (In (cell k a) l → suc (length (keep (inBlock b) (put k a′ l))) ≡ length (keep (inBlock b) l)) → suc (length (keep (inBlock b) (put k a′ (y ∷ l)))) ≡ length (keep (inBlock b) (y ∷ l))
     go (inl e) ih = rw (← e, le-ltb k k (omega arith), eq-eqb k k refl, f, t)

@@ -88,10 +88,6 @@ pub data Thin (b : ℕ) : List Placed → List Placed → Type 0 where
   held : {y : Placed} {l m : List Placed} → Thin b l m → Thin b (y ∷ l) (y ∷ m)
   gone : {y : Placed} {l m : List Placed} → serialOf y < b → Thin b l m → Thin b (y ∷ l) m
 
-pub thin-refl : (b : ℕ) (l : List Placed) → Thin b l l
-thin-refl b [] = end
-thin-refl b (x ∷ l) = held (thin-refl b l)
-
 pub thin-all : (f : Placed → Bool) {b : ℕ} {l m : List Placed} → Thin b l m → all f l ≡ true → all f m ≡ true
 thin-all f end p = p
 thin-all f (held {y = y} {l = l} {m = m} t) p = all-cons f y m (all-head f y l p) (thin-all f t (all-tail f y l p))
@@ -289,15 +285,6 @@ goes-on-append k s (x ∷ xs) ys h =
     and-both (and-l (every t) (ends (x .page) || r) h)
     (or-more (ends (x .page)) r (goesOn k (suc s) (xs ++ ys)) (goes-on-append k (suc s) xs ys) (and-r (every t) (ends (x .page) || r) h))
 
-pub starts-append : (k : ℕ) (xs ys : List Placed) → startsGroup k xs ≡ true → startsGroup k (xs ++ ys) ≡ true
-unfolding startsGroup
-starts-append k [] ys h = true-false h refl
-starts-append k (x ∷ xs) ys h =
-    let t : List Bool = eqb (kindOf x) k ∷ begins (x .page) ∷ [] in
-    let r : Bool = goesOn k (suc (serialOf x)) xs in
-    and-both (and-l (every t) (ends (x .page) || r) h)
-    (or-more (ends (x .page)) r (goesOn k (suc (serialOf x)) (xs ++ ys)) (goes-on-append k (suc (serialOf x)) xs ys) (and-r (every t) (ends (x .page) || r) h))
-
 -- a group begins where it starts
 pub starts-begins : (k : ℕ) (x : Placed) (xs : List Placed) → opposite isBegin x ≡ true → startsGroup k (x ∷ xs) ≡ false
 unfolding startsGroup every opposite isBegin
@@ -349,12 +336,6 @@ starts-more k x xs a n g = rw (a, n) (or-right (ends (x .page)) g)
 
 -- ---- the search for the base
 
--- a base in the last pages is the base
-pub base-append : (xs ys : List Placed) (b : ℕ) → baseOf ys ≡ some b → baseOf (xs ++ ys) ≡ some b
-unfolding baseOf isSome
-base-append [] ys b h = h
-base-append (x ∷ xs) ys b h = rw (base-append xs ys b h)
-
 -- a page that ends no base adds none
 pub base-snoc : (l : List Placed) (x : Placed) → (eqb (kindOf x) 2 && ends (x .page)) ≡ false → baseOf (l ++ (x ∷ [])) ≡ baseOf l
 unfolding baseOf isSome
@@ -373,50 +354,3 @@ base-none (x ∷ l) h = rw (base-none l (all-tail (opposite isBegin) x l h), sta
 pub base-group : (x : Placed) (xs : List Placed) → all (opposite isBegin) xs ≡ true → startsGroup 2 (x ∷ xs) ≡ true → baseOf (x ∷ xs) ≡ some (serialOf x)
 unfolding baseOf isSome
 base-group x xs n h = rw (base-none xs n, h)
-
--- where the base's first page stands: a complete kind 2 group starts with it, and none starts after it
-pub record BaseAt (l : List Placed) (b : ℕ) : Type 0 where
-  pub before : List Placed
-  pub page : Placed
-  pub after : List Placed
-  pub parts : l ≡ before ++ (page ∷ after)
-  pub serial : serialOf page ≡ b
-  pub starts : startsGroup 2 (page ∷ after) ≡ true
-  pub last : baseOf after ≡ none
-
-none-some : {P : Type 0} {b : ℕ} → none ≡ some b → P
-unfolding isSome
-none-some h = true-false refl (sym (ap isSome h))
-
-some-inj : {a b : ℕ} → some a ≡ some b → a ≡ b
-unfolding valueOr
-some-inj h = ap (valueOr 0) h
-
-pub base-in : (l : List Placed) (b : ℕ) → baseOf l ≡ some b → BaseAt l b
-unfolding baseOf isSome
-base-in [] b h = none-some h
-base-in (x ∷ l) b h = go (baseOf l) refl (startsGroup 2 (x ∷ l)) refl h (base-in l b)
-  where
-    later : BaseAt l b → BaseAt (x ∷ l) b
-    later t =
-        record {
-          before = x ∷ t .before;
-          page = t .page;
-          after = t .after;
-          parts = ap (λ (m : List Placed). x ∷ m) (t .parts);
-          serial = t .serial;
-          starts = t .starts;
-          last = t .last;
-        }
-
-    go :
-        (o : Option ℕ)
-        → baseOf l ≡ o
-        → (g : Bool)
-        → startsGroup 2 (x ∷ l) ≡ g
-        → cond (isSome o) o (cond g (some (serialOf x)) none) ≡ some b
-        → (baseOf l ≡ some b → BaseAt l b)
-        → BaseAt (x ∷ l) b
-    go (some a) e g f h r = later (r (e ∙ h))
-    go none e true f h r = record { before = []; page = x; after = l; parts = refl; serial = some-inj h; starts = f; last = e }
-    go none e false f h r = none-some h

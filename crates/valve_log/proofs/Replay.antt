@@ -17,6 +17,7 @@ use Rattle.lists.specs.Cells.{cell, Entry}
 use Rattle.lists.proofs.Laws.{by-cases, and-l, and-r, and-both, all-head, all-tail}
 use Rattle.index.specs.Index.{entering, mostValves, risingFrom, assign, assignAll, within}
 use Rattle.recovery.specs.Recovery.{Placed, kindOf, Group, entriesOf, logOf, pagesOf, above, stack, enterOne, enterAll, enterPage, enterPages}
+use Rattle.recovery.proofs.Pages.{above-snoc}
 use Rattle.step.specs.Step.{groupPage, addressedFrom, addressed}
 use Rattle.valve_log.proofs.Index.{nodes, nodesOf, assign-append}
 use Rattle.valve_log.proofs.Groups.{lay}
@@ -28,15 +29,10 @@ unfolding logOf
 log-append [] b = refl
 log-append (g ∷ a) b = by-cases (eqb (g .kind) 1) (λ e. rw (e, log-append a b)) (λ e. rw (e, log-append a b))
 
-pub pages-of-append : (a b : List Group) → pagesOf (a ++ b) ≡ pagesOf a ++ pagesOf b
-unfolding pagesOf
-pages-of-append [] b = refl
-pages-of-append (g ∷ a) b = rw (pages-of-append a b) (sym (append-assoc (g .pages) (pagesOf a) (pagesOf b)))
-
-pub pages-append : (o : Option (List Cell)) (a b : List Placed) → enterPages o (a ++ b) ≡ enterPages (enterPages o a) b
+pub enter-pages-append : (o : Option (List Cell)) (a b : List Placed) → enterPages o (a ++ b) ≡ enterPages (enterPages o a) b
 unfolding enterPages
-pages-append o [] b = refl
-pages-append o (x ∷ a) b = pages-append (enterPage o x) a b
+enter-pages-append o [] b = refl
+enter-pages-append o (x ∷ a) b = enter-pages-append (enterPage o x) a b
 
 -- ---- a group of nodes
 
@@ -73,12 +69,6 @@ enter-group k l (x ∷ g) q u h =
     rw (p, assign-append l ns (nodesOf g)) (enter-group k (assignAll l ns) g q (all-tail f x g u) (within-right l ns (nodesOf g) h))
 
 -- ---- a base
-
-above-snoc : (l : List Cell) (x : Cell) → above (l ++ (x ∷ [])) ≡ suc (x .key)
-unfolding above
-above-snoc [] x = refl
-above-snoc (y ∷ []) x = refl
-above-snoc (y ∷ z ∷ l) x = above-snoc (z ∷ l) x
 
 enter-stack : (a : ℕ) (l es : List Cell) → risingFrom (above l) es ≡ true → length l + length es ≤ mostValves → enterAll 2 a (some l) es ≡ some (l ++ es)
 unfolding enterAll enterOne stack risingFrom

@@ -17,7 +17,8 @@ use Rattle.nodes.specs.Nodes.{sound, words}
 use Rattle.state.specs.State.{Held, held, idle}
 use Rattle.blocks.specs.Blocks.{sizeOk}
 use Rattle.recovery.specs.Recovery.{Placed, placed, serialOf, wholes, allLawful, distinct, sort, lastOf, noPage, baseOf, reaches, from, consecutive, Group, between, walk, groupsOf, logOf, pagesOf, enterPages, refused, recovered, base, chain, groups, replayed, recoveredState, recoverNeeds, recover}
-use Rattle.valve_log.proofs.Order.{below, Grow, grow-all, grow-from, grow-sort, grow-distinct, Thin, thin-all, thin-distinct, thin-from, upto, sort-split, from-sort, base-append, last-append, consecutive-append, consecutive-one, consecutive-last}
+use Rattle.recovery.proofs.Pages.{base-append}
+use Rattle.valve_log.proofs.Order.{below, Grow, grow-all, grow-from, grow-sort, grow-distinct, Thin, thin-all, thin-distinct, thin-from, upto, sort-split, from-sort, last-append, consecutive-append, consecutive-one, consecutive-last}
 use Rattle.valve_log.proofs.Index.{TidyIndex, words-keep, sound-keep}
 use Rattle.valve_log.proofs.Views.{wholes-grow, set-keeps, Lost, thin-of}
 

@@ -20,6 +20,7 @@ use Rattle.index.specs.Index.{rising, within, assignAll}
 use Rattle.nodes.specs.Nodes.{setsValves, wordAt, words}
 use Rattle.state.specs.State.{idle, append, commit, collect, Held, held, basePages, groupOk}
 use Rattle.recovery.specs.Recovery.{Placed, placed, kindOf, wholes, sort, baseOf, startsGroup, goesOn, from, consecutive, Group, group, between, joined, begun, walk, groupsOf, entriesOf, logOf, pagesOf, above, enterPages}
+use Rattle.recovery.proofs.Pages.{pages-append}
 use Rattle.step.specs.Step.{isLast, groupPage, moved, addressed, appended, committed, collected}
 use Rattle.valve_log.specs.History.{nothing, appending, committing, collecting, History, history, counted}
 use Rattle.valve_log.proofs.Order.{from-parts, from-from, from-sort, walk-append, isBegin, base-snoc, base-group, starts-one, starts-more, consecutive-left, consecutive-right, consecutive-reaches, consecutive-below}
@@ -28,7 +29,7 @@ use Rattle.valve_log.proofs.Views.{clean-in}
 use Rattle.valve_log.proofs.Present.{PresentAll, nil, cons, present-snoc, present-set, group-words, group-sound}
 use Rattle.valve_log.proofs.Small.{Small}
 use Rattle.valve_log.proofs.Groups.{lay, ends-page, begins-page, page-most, lawful-nodes, lawful-base, lawful-moves, lay-snoc, lay-length, lay-all, lay-kind, lay-begins, Opened, enter-begin, enter-page, opened-any}
-use Rattle.valve_log.proofs.Replay.{pages-append, enter-group, enter-base, log-append, pages-of-append, addressed-laid, addressed-one}
+use Rattle.valve_log.proofs.Replay.{enter-pages-append, enter-group, enter-base, log-append, addressed-laid, addressed-one}
 use Rattle.valve_log.proofs.Sound.{Sound, grown}
 use Rattle.valve_log.proofs.Coupling.{at-rest, in-append, in-commit, in-collect, alive, Coupled, Fits}
 
@@ -68,10 +69,6 @@ some-pages n h = omega arith
 pub page-serial : (kind : ℕ) (es : List Entry) (k s : ℕ) → groupPage kind es k s .serial ≡ s
 unfolding groupPage
 page-serial kind es k s = refl
-
-pub page-kind : (kind : ℕ) (es : List Entry) (k s : ℕ) → groupPage kind es k s .kind ≡ kind
-unfolding groupPage
-page-kind kind es k s = refl
 
 -- ---- a base laid out whole
 
@@ -200,8 +197,8 @@ module _ (v : List View) (s : Held) (h : History) {ch : List Placed} {gs : List 
       replayed : enterPages (some []) (pagesOf (gs ++ (grp ∷ []))) ≡ some (assignAll (s .index) (nodesOf (grp .pages)))
       replayed =
           let a : pagesOf (grp ∷ []) ≡ grp .pages = unfold pagesOf in append-nil (grp .pages) in
-          ap (enterPages (some [])) (pages-of-append gs (grp ∷ []) ∙ ap (λ (z : List Placed). pagesOf gs ++ z) a)
-          ∙ pages-append (some []) (pagesOf gs) (grp .pages)
+          ap (enterPages (some [])) (pages-append gs (grp ∷ []) ∙ ap (λ (z : List Placed). pagesOf gs ++ z) a)
+          ∙ enter-pages-append (some []) (pagesOf gs) (grp .pages)
           ∙ ap (λ (o : Option (List Place)). enterPages o (grp .pages)) (S .replays)
           ∙ enter-group (grp .kind) (s .index) (grp .pages) k′ kinds wi
 
