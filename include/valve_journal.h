@@ -78,7 +78,7 @@ typedef struct VjRecovered {
 /* What vj_log answers. */
 typedef struct VjCount {
     uint8_t number; /* 0, or the number of the refusal */
-    size_t count;   /* how many changes the log has; 0 on a refusal */
+    size_t count;   /* how many changes the log has; on a refusal it means nothing */
 } VjCount;
 
 /* A part of the medium. */
@@ -96,7 +96,7 @@ typedef struct VjWord {
 /* What vj_pick answers. */
 typedef struct VjPick {
     uint8_t number; /* 0, or the number of the refusal */
-    uint8_t found;  /* 1 where a block is picked, else 0 */
+    uint8_t found;  /* 1 exactly where a block is picked */
     uint64_t block; /* the block, from 0; where none is picked it means nothing */
 } VjPick;
 
