@@ -2,42 +2,21 @@
 //
 //   rt staticlib journal_c
 //   rustc --edition 2021 -O -L target/staticlib examples/morning.rs -o target/morning_rs
+#[allow(dead_code)]
+#[path = "../include/valve_journal.rs"]
+mod valve_journal;
+
 use std::io::Read;
-
-#[repr(C)]
-#[derive(Clone, Copy)]
-struct Cell { key: u16, val: u64 }
-#[repr(C)]
-#[derive(Clone, Copy)]
-struct Cells { count: usize, cells: [Cell; 192] }
-#[repr(C)]
-#[derive(Clone, Copy)]
-struct Head { blocks: usize, block: usize, next: usize, serial: u64, base: u64 }
-#[repr(C)]
-#[derive(Clone, Copy)]
-struct State { head: Head, index: Cells, group: Cells, pages: [u16; 4], operation: u8, progress: u64 }
-#[repr(C)]
-struct Recovered { number: u8, state: State }
-#[repr(C)]
-struct Count { number: u8, count: usize }
-#[repr(C)]
-struct Word { number: u8, word: u64 }
-
-#[link(name = "journal_c", kind = "static")]
-extern "C" {
-    fn vj_recover(m: *const u8, m_len: usize) -> Recovered;
-    fn vj_log(m: *const u8, m_len: usize, keys: *mut u16, keys_len: usize, words: *mut u64, words_len: usize) -> Count;
-    fn vj_opening(m: *const u8, m_len: usize, state: State, valve: u16) -> Word;
-}
+use valve_journal::{vj_log, vj_opening, vj_recover, VjState};
 
 // The word of a valve, or the number of the refusal.
-fn opening(m: &[u8], state: State, valve: u16) -> Result<u64, u8> {
+fn opening(m: &[u8], state: VjState, valve: u16) -> Result<u64, u8> {
     let opened = unsafe { vj_opening(m.as_ptr(), m.len(), state, valve) };
     if opened.number == 0 { Ok(opened.word) } else { Err(opened.number) }
 }
 
 // The log's keys and words, and the state; or the number of the refusal.
-fn read(m: &[u8]) -> Result<(Vec<(u16, u64)>, State), u8> {
+fn read(m: &[u8]) -> Result<(Vec<(u16, u64)>, VjState), u8> {
     if m.len() > 65536 {
         return Err(1);
     }

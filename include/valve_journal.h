@@ -1,4 +1,4 @@
-/* The valve journal for C programs: recovery, the log, the pages of a medium, and the readings of a state.
+/* The valve journal for C programs: recovery, the log, the pages of a medium, the readings of a state, and the operations that write.
  *
  * A medium is a run of bytes in memory, lent to each call as a pointer and a length. It has 4 to 16 blocks of 4096 bytes; a block has 16
  * pages of 256 bytes. Every call takes a medium of any length and any content and answers; none keeps a pointer, allocates, prints or
@@ -7,7 +7,12 @@
  * A lent pointer is aligned for its type and, where its length is not 0, points to that many elements, which nobody else writes while the
  * call runs. A list that a call writes overlaps no other list that is lent to the same call.
  *
- * Numbers of refusals. 0 is no refusal; the lowest number that applies is given, save that vj_opening gives 18 before 6.
+ * Only vj_step writes to a medium. An operation is begun by one call, vj_format, vj_append, vj_commit or vj_collect, which hands back the
+ * state with the operation pending; then each vj_step makes one device step of it, until it tells that the operation is finished. What a
+ * step touched is carried to the chip before the next call. Every call gets the state that the last one handed back.
+ *
+ * Numbers of refusals. 0 is no refusal; the lowest number that applies is given, save that vj_opening gives 18 before 6, vj_collect 15
+ * before 6, and vj_step 9 before 6.
  *   1  the medium's length is not 4 to 16 times 4096 bytes
  *   2  a whole page breaks the page rules
  *   3  two whole pages share a serial
@@ -15,6 +20,15 @@
  *   5  from the base on, a gap in the serials or a page out of its group
  *   6  the base's valves do not rise, over 192 valves are set, or an address of the index lacks its entry
  *   7  the state does not fit the medium
+ *   8  an operation is pending
+ *   9  no operation is pending
+ *  10  the lists of an append differ in length, or have no entry, or over 96
+ *  11  a removal's word is not 0
+ *  12  more than 192 valves would be set
+ *  13  too few pages are available
+ *  14  too few serials are left: the next serial and the pages make more than 2^64 - 1
+ *  15  the block is not collectible, or there is no such block
+ *  16  the page due is not there, or is not clean
  *  17  a lent list is too short
  *  18  the valve is not set
  */
@@ -107,6 +121,33 @@ typedef struct VjSurvey {
                           * nothing */
 } VjSurvey;
 
+/* What vj_available answers. */
+typedef struct VjPages {
+    uint8_t number; /* 0, or the number of the refusal */
+    uint64_t pages; /* how many pages; on a refusal it means nothing */
+} VjPages;
+
+/* What vj_format, vj_append, vj_commit and vj_collect answer. */
+typedef struct VjBegun {
+    uint8_t number; /* 0, or the number of the refusal */
+    VjState state;  /* the state with the operation pending; on a refusal every field as given; where vj_format refuses it means nothing */
+} VjBegun;
+
+/* The values of VjStepped.touched. */
+enum {
+    VJ_PAGE = 1, /* a page was programmed: 256 bytes from byte 256 x at on */
+    VJ_BLOCK = 2 /* a block was erased to FFh: 4096 bytes from byte 4096 x at on */
+};
+
+/* What vj_step answers. */
+typedef struct VjStepped {
+    uint8_t number;   /* 0, or the number of the refusal */
+    uint8_t touched;  /* VJ_PAGE or VJ_BLOCK; on a refusal it means nothing */
+    uint8_t finished; /* 1 exactly where the operation is finished; on a refusal it means nothing */
+    uint64_t at;      /* the number of the page or the block in the medium, from 0; on a refusal it means nothing */
+    VjState state;    /* the state after the step; on a refusal every field as given */
+} VjStepped;
+
 /* Recovers the state from the medium, which stays as it is. Refuses 1 to 6. */
 VjRecovered vj_recover(const uint8_t *medium, size_t medium_length);
 
@@ -118,8 +159,10 @@ VjCount vj_log(const uint8_t *medium, size_t medium_length, uint16_t *keys, size
  * these bytes, offset and length are 0. Never refuses. */
 VjPart vj_page(const uint8_t *medium, size_t medium_length, size_t p);
 
-/* The next three calls read a state against its medium; both stay as they are. A state of any content may be given: one that does not fit
- * the medium, or whose operation names none, is refused with 7. */
+/* The calls from here on, vj_format aside, take a state with its medium. A state of any content may be given: one that does not fit the
+ * medium, or whose operation names none, is refused with 7. */
+
+/* The next four calls read a state against its medium; both stay as they are. */
 
 /* The word of a valve. Refuses 1, 7, 18 and, where the valve's address lacks its entry, 6, in this order. */
 VjWord vj_opening(const uint8_t *medium, size_t medium_length, VjState state, uint16_t valve);
@@ -129,6 +172,30 @@ VjPick vj_pick(const uint8_t *medium, size_t medium_length, VjState state);
 
 /* The pages of each block, counted by what they are. Refuses 1 and 7. */
 VjSurvey vj_survey(const uint8_t *medium, size_t medium_length, VjState state);
+
+/* The pages that can still be written: those left in the head block, and sixteen for each wholly clean block other than the head. Refuses
+ * 1 and 7. */
+VjPages vj_available(const uint8_t *medium, size_t medium_length, VjState state);
+
+/* The next four calls begin an operation. The medium stays as it is: vj_step does the work. */
+
+/* Begins formatting. It takes no state, so it drops whatever was pending. Refuses 1. */
+VjBegun vj_format(const uint8_t *medium, size_t medium_length);
+
+/* Begins an append of 1 to 96 entries, in two lists of one length: the key is the valve, or 32768 + valve for a removal, whose word is 0.
+ * The entries are kept in the state; the lists are not used again. 16 pages must stay available. Refuses 1, 7, 8 and 10 to 14. */
+VjBegun vj_append(const uint8_t *medium, size_t medium_length, VjState state, const uint16_t *keys, size_t keys_length, const uint64_t *words, size_t words_length);
+
+/* Begins a commit: a new base of the valves that are set. Refuses 1, 7, 8, 13 and 14. */
+VjBegun vj_commit(const uint8_t *medium, size_t medium_length, VjState state);
+
+/* Begins the collection of a block, counted from 0: its live entries are moved, then it is erased. Refuses 1, 7, 8, 15, 6 where a live
+ * entry of the block is not there, 13 and 14, in this order. */
+VjBegun vj_collect(const uint8_t *medium, size_t medium_length, VjState state, uint64_t block);
+
+/* Makes one device step of the pending operation: it programs one clean page, or erases one block. No other byte of the medium changes,
+ * and on a refusal none does. Refuses 1, 7, 9, 6 where an entry to move is not there, 14 for a page to program, and 16, in this order. */
+VjStepped vj_step(uint8_t *medium, size_t medium_length, VjState state);
 
 #ifdef __cplusplus
 }

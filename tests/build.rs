@@ -1,7 +1,7 @@
-//! Links the tests with the proved library's archive, which `tests/run` builds first.
+//! Links the tests with the proved library's archive, which `tests/run` builds first. The paths are relative, so that a copy of the
+//! tree, built files and all, links with its own archive.
 
 fn main() {
-    let archive = std::path::Path::new(env!("CARGO_MANIFEST_DIR")).join("../target/staticlib");
-    println!("cargo:rustc-link-search=native={}", archive.display());
-    println!("cargo:rerun-if-changed={}", archive.join("libjournal_c.a").display());
+    println!("cargo:rustc-link-search=native=../target/staticlib");
+    println!("cargo:rerun-if-changed=../target/staticlib/libjournal_c.a");
 }

@@ -6,10 +6,17 @@
 //! * [`history`]: the plain history that recovery is held to.
 //! * [`random`]: media, cuts and damage made by chance, always the same ones
 //!   for the same seed.
+//! * [`proved`]: the first one, the proved library, behind safe calls.
 
-#![forbid(unsafe_code)]
+#![deny(unsafe_code)]
 
 pub mod history;
+#[allow(unsafe_code)]
+pub mod proved;
 pub mod random;
 pub mod reader;
+/// The proved library's declarations for Rust programs.
+#[allow(unsafe_code)]
+#[path = "../../include/valve_journal.rs"]
+mod valve_journal;
 pub mod writer;

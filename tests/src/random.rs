@@ -105,14 +105,26 @@ pub fn cut_mask(random: &mut Random) -> Vec<u8> {
 
 /// A cut inside a program: each bit 1 or its final bit. Tells whether the page
 /// was left complete.
-pub fn cut_program(medium: &mut [u8], page: usize, last: &[u8], mask: &[u8]) -> bool {
+fn cut_program(medium: &mut [u8], page: usize, last: &[u8], mask: &[u8]) -> bool {
     let torn: Vec<u8> = last.iter().zip(mask).map(|(byte, mask)| byte | mask).collect();
     put_page(medium, page, &torn);
     torn == last
 }
 
+/// Cuts the step that touched this page or block and would leave `after`:
+/// whether it left a page being programmed complete.
+pub fn cut_step(medium: &mut [u8], after: &[u8], touched: &Touched, mask: &[u8]) -> bool {
+    match *touched {
+        Touched::Page(page) => cut_program(medium, page, reader::page(after, page), mask),
+        Touched::Block(block) => {
+            cut_erase(medium, block, mask);
+            false
+        }
+    }
+}
+
 /// A cut inside an erase: each bit of the block as it was or 1.
-pub fn cut_erase(medium: &mut [u8], block: usize, mask: &[u8]) {
+fn cut_erase(medium: &mut [u8], block: usize, mask: &[u8]) {
     let bytes = &mut medium[block * BLOCK_BYTES..(block + 1) * BLOCK_BYTES];
     for (byte, mask) in bytes.iter_mut().zip(mask) {
         *byte |= !mask;
@@ -144,6 +156,7 @@ pub enum Reading {
     Open { valve: u16 },
     Pick,
     Survey,
+    Available,
     /// The log into lists of so many places.
     Log { keys: usize, words: usize },
 }
@@ -167,7 +180,7 @@ pub struct Life {
     pub state: Option<State>,
     pub history: Option<History>,
     habits: Habits,
-    /// Refusals with 13 since something was last finished.
+    /// Refusals with 13 or 14 since something was last finished.
     full: usize,
 }
 
@@ -186,7 +199,7 @@ impl Habits {
     fn new(random: &mut Random) -> Habits {
         Habits {
             valves: random.one_of(&[3, 40, 191, 200, 260, 32768]),
-            cut_one_in: random.one_of(&[6, 20, 60, 400]),
+            cut_one_in: random.one_of(&[2, 6, 20, 60, 400]),
             removal_one_in: random.one_of(&[2, 5, 30]),
         }
     }
@@ -205,11 +218,27 @@ impl Life {
         Life { medium, state: None, history: None, habits: Habits::new(random), full: 0 }
     }
 
+    /// Whether formatting was finished and nothing was begun since.
+    pub fn just_formatted(&self) -> bool {
+        let new = |state: &State| state.next_serial == 2 && state.pending.is_none();
+        self.history.is_some() && self.state.as_ref().is_some_and(new)
+    }
+
+    /// Makes a journal that is just formatted an old one, with so many serials
+    /// left: its base and its state get a serial near the last.
+    pub fn grow_old(&mut self, serials_left: u64) {
+        let Some(state) = &mut self.state else { return };
+        state.next_serial = u64::MAX - serials_left;
+        state.first_base_serial = state.next_serial - 1;
+        let base = lay_page(BASE, 3, state.first_base_serial, &[]);
+        put_page(&mut self.medium, 0, &base);
+    }
+
     /// What happens next. Where the state is lost that is formatting or
     /// recovery; else mostly what a user of the journal would do.
     pub fn next_action(&self, random: &mut Random) -> Action {
         let Some(state) = &self.state else {
-            return if self.history.is_some() { Action::Recover } else { Action::Format };
+            return self.after_a_cut(random);
         };
         let formatting = matches!(state.pending, Some(Pending::Format { .. }));
         if (self.history.is_none() && !formatting) || self.full > 4 || random.one_in(2000) {
@@ -222,6 +251,17 @@ impl Life {
             return self.go_on(random, formatting);
         }
         self.begin(random, state)
+    }
+
+    /// A recovery, or formatting where that was cut; now and then a cut again.
+    fn after_a_cut(&self, random: &mut Random) -> Action {
+        if random.one_in(8) {
+            Action::Cut
+        } else if self.history.is_some() {
+            Action::Recover
+        } else {
+            Action::Format
+        }
     }
 
     /// A step, or a cut.
@@ -269,12 +309,13 @@ impl Life {
     }
 
     fn some_reading(&self, random: &mut Random) -> Reading {
-        match random.below(6) {
+        match random.below(7) {
             0 => Reading::Pick,
             1 => Reading::Survey,
             2 => Reading::Log { keys: random.below(300), words: random.below(300) },
             3 => Reading::Log { keys: 5000, words: 5000 },
-            4 => Reading::Open { valve: random.bits() as u16 },
+            4 => Reading::Available,
+            5 => Reading::Open { valve: random.bits() as u16 },
             _ => Reading::Open { valve: random.below(self.habits.valves) as u16 },
         }
     }
@@ -369,7 +410,7 @@ impl Life {
                 Outcome::Accepted
             }
             Err(Refused(number)) => {
-                self.full += usize::from(number == 13);
+                self.full += usize::from(number == 13 || number == 14);
                 self.feed(Event::Refused);
                 Outcome::Refused(number)
             }
@@ -442,15 +483,7 @@ impl Life {
         let Some(mut state) = self.state.take() else { return self.cut_between() };
         let mut after = self.medium.clone();
         let Ok(step) = writer::step(&mut after, &mut state) else { return self.cut_between() };
-        let complete = match step.touched {
-            Touched::Page(page) => {
-                cut_program(&mut self.medium, page, reader::page(&after, page), mask)
-            }
-            Touched::Block(block) => {
-                cut_erase(&mut self.medium, block, mask);
-                false
-            }
-        };
+        let complete = cut_step(&mut self.medium, &after, &step.touched, mask);
         self.feed(Event::Cut { complete });
         Outcome::Cut { struck: Some(step.touched), complete }
     }
@@ -462,6 +495,7 @@ fn read(medium: &[u8], state: &State, reading: Reading) -> Result<(), Refused> {
         Reading::Open { valve } => reader::open(medium, state, valve).map(drop),
         Reading::Pick => reader::pick(medium, state).map(drop),
         Reading::Survey => reader::survey(medium, state).map(drop),
+        Reading::Available => reader::count_available(medium, state).map(drop),
         Reading::Log { keys, words } => {
             reader::log_into(medium, &mut vec![0; keys], &mut vec![0; words]).map(drop)
         }

@@ -4,9 +4,9 @@
 mod common;
 
 use common::*;
-use journal_tests::random::{Action, Life, Outcome, Random};
+use journal_tests::random::{Life, Random};
 use journal_tests::reader::*;
-use journal_tests::writer::{State, Touched};
+use journal_tests::writer::State;
 use std::collections::BTreeMap;
 
 /// What must hold after every event, once formatting is finished.
@@ -30,37 +30,6 @@ fn check_state_kept(medium: &[u8], state: &State, recovered: &State) {
     assert_eq!(&closed, recovered);
 }
 
-/// A name for what happened, to see that everything did.
-fn name(action: &Action, outcome: Outcome) -> String {
-    let action = match action {
-        Action::Format => "format",
-        Action::Append { .. } => "append",
-        Action::Commit => "commit",
-        Action::Collect { .. } => "collect",
-        Action::Step => "step",
-        Action::Cut => "cut between",
-        Action::CutInside { .. } => "cut inside",
-        Action::Recover => "recover",
-        Action::Read(_) => "read",
-    };
-    match outcome {
-        Outcome::Refused(number) => format!("{action} refused {number}"),
-        Outcome::Accepted => action.to_string(),
-        Outcome::Stepped(step) => format!("{action} {}", touched(Some(step.touched))),
-        Outcome::Cut { struck, complete } => {
-            format!("{action} {}{}", touched(struck), if complete { " complete" } else { "" })
-        }
-    }
-}
-
-fn touched(what: Option<Touched>) -> &'static str {
-    match what {
-        Some(Touched::Page(_)) => "page",
-        Some(Touched::Block(_)) => "block",
-        None => "nothing",
-    }
-}
-
 /// Runs lives of so many events; how often each thing happened.
 fn run(seed: u64, lives: usize, events: usize) -> BTreeMap<String, usize> {
     let mut random = Random::new(seed);
@@ -71,7 +40,7 @@ fn run(seed: u64, lives: usize, events: usize) -> BTreeMap<String, usize> {
             let action = life.next_action(&mut random);
             let outcome = life.act(&action);
             check(&life);
-            *happened.entry(name(&action, outcome)).or_insert(0) += 1;
+            *happened.entry(happening(&action, outcome)).or_insert(0) += 1;
         }
     }
     happened

@@ -1,112 +1,28 @@
-//! The proved library against the second implementation, on many media: the refusal, the state and the log of each, and the readings that
-//! take a state.
+//! The proved library against the second implementation, on many media: the
+//! refusal, the state and the log of each, and the readings that take a state.
 
+use journal_tests::proved::{self, count_available, open, pick, survey, VjState};
 use journal_tests::random::{self, Random};
-use journal_tests::reader::{self, Entry, Pending, Refused, State};
+use journal_tests::reader::{self, Entry, Refused, State};
 use journal_tests::writer;
-
-#[repr(C)]
-struct VjCell {
-    key: u16,
-    val: u64,
-}
-
-#[repr(C)]
-struct VjCells {
-    count: usize,
-    cells: [VjCell; 192],
-}
-
-#[repr(C)]
-struct VjHead {
-    blocks: usize,
-    block: usize,
-    next: usize,
-    serial: u64,
-    base: u64,
-}
-
-#[repr(C)]
-struct VjState {
-    head: VjHead,
-    index: VjCells,
-    group: VjCells,
-    pages: [u16; 4],
-    operation: u8,
-    progress: u64,
-}
-
-#[repr(C)]
-struct VjRecovered {
-    number: u8,
-    state: VjState,
-}
-
-#[repr(C)]
-struct VjCount {
-    number: u8,
-    count: usize,
-}
-
-#[repr(C)]
-struct VjWord {
-    number: u8,
-    word: u64,
-}
-
-#[repr(C)]
-struct VjPick {
-    number: u8,
-    found: u8,
-    block: u64,
-}
-
-#[repr(C)]
-struct VjSurvey {
-    number: u8,
-    counts: [u16; 48],
-}
-
-#[link(name = "journal_c", kind = "static")]
-extern "C" {
-    fn vj_recover(m: *const u8, m_len: usize) -> VjRecovered;
-    fn vj_log(m: *const u8, m_len: usize, keys: *mut u16, keys_len: usize, words: *mut u64, words_len: usize) -> VjCount;
-    fn vj_opening(m: *const u8, m_len: usize, state: VjState, valve: u16) -> VjWord;
-    fn vj_pick(m: *const u8, m_len: usize, state: VjState) -> VjPick;
-    fn vj_survey(m: *const u8, m_len: usize, state: VjState) -> VjSurvey;
-}
 
 /// What the proved recovery says, in the other implementation's terms.
 fn recover(medium: &[u8]) -> Result<State, Refused> {
-    // The pointer and the length are those of the slice.
-    let r = unsafe { vj_recover(medium.as_ptr(), medium.len()) };
-    if r.number != 0 {
-        return Err(Refused(r.number));
-    }
-    let s = r.state;
-    assert_eq!(s.operation, 0, "nothing is pending after a recovery");
-    Ok(State {
-        blocks: s.head.blocks,
-        head: s.head.block,
-        next_page: s.head.next,
-        next_serial: s.head.serial,
-        first_base_serial: s.head.base,
-        index: s.index.cells[..s.index.count].iter().map(|c| reader::Place { valve: c.key, address: c.val }).collect(),
-        pending: None,
-    })
+    proved::recover(medium).map(|state| state.meaning().expect("a state that means something"))
 }
 
+/// What a call that fills two lists answers, and the lists.
+type Log = (Result<usize, Refused>, Vec<u16>, Vec<u64>);
+
 /// The proved log into lists of these lengths, which hold 9 before.
-fn log(medium: &[u8], keys: usize, words: usize) -> (Result<usize, Refused>, Vec<u16>, Vec<u64>) {
+fn log(medium: &[u8], keys: usize, words: usize) -> Log {
     let (mut keys, mut words) = (vec![9u16; keys], vec![9u64; words]);
-    // Each pointer has the length of its own list, and the lists are apart.
-    let r = unsafe { vj_log(medium.as_ptr(), medium.len(), keys.as_mut_ptr(), keys.len(), words.as_mut_ptr(), words.len()) };
-    let answer = if r.number == 0 { Ok(r.count) } else { Err(Refused(r.number)) };
+    let answer = proved::log_into(medium, &mut keys, &mut words);
     (answer, keys, words)
 }
 
 /// The other implementation's, likewise.
-fn expected_log(medium: &[u8], keys: usize, words: usize) -> (Result<usize, Refused>, Vec<u16>, Vec<u64>) {
+fn expected_log(medium: &[u8], keys: usize, words: usize) -> Log {
     let (mut keys, mut words) = (vec![9u16; keys], vec![9u64; words]);
     let answer = reader::log_into(medium, &mut keys, &mut words);
     (answer, keys, words)
@@ -118,7 +34,9 @@ fn agree(random: &mut Random, medium: &[u8]) -> u8 {
     assert_eq!(recover(medium), expected);
     let changes = reader::log_into(medium, &mut [0; 6144], &mut [0; 6144]).unwrap_or(0);
     let short = random.below(changes + 1);
-    for (keys, words) in [(6144, 6144), (changes, changes), (short, 6144), (6144, short), (changes + 3, changes + 1)] {
+    for (keys, words) in
+        [(6144, 6144), (changes, changes), (short, 6144), (6144, short), (changes + 3, changes + 1)]
+    {
         assert_eq!(log(medium, keys, words), expected_log(medium, keys, words));
     }
     expected.map_or_else(|refused| refused.0, |_| 0)
@@ -196,60 +114,6 @@ fn on_bytes_of_any_length() {
 // ---------------------------------------------------------------------------
 // The readings that take a state
 
-/// A list as the library has it; what is past 192 shows in the count alone.
-fn cells(list: impl ExactSizeIterator<Item = (u16, u64)>) -> VjCells {
-    let mut cells = VjCells { count: list.len(), cells: [const { VjCell { key: 0, val: 0 } }; 192] };
-    for (cell, (key, val)) in cells.cells.iter_mut().zip(list) {
-        *cell = VjCell { key, val };
-    }
-    cells
-}
-
-/// A state of the other implementation, as the library has it.
-fn flat(s: &State) -> VjState {
-    let (mut group, mut pages) = (Vec::new(), [0; 4]);
-    let (operation, progress) = match &s.pending {
-        None => (0, 0),
-        Some(Pending::Append { entries, written }) => {
-            group.clone_from(entries);
-            for (page, &number) in pages.iter_mut().zip(written) {
-                *page = number as u16;
-            }
-            (1, written.len() as u64)
-        }
-        Some(Pending::Commit { done }) => (2, *done),
-        Some(Pending::Collect { block }) => (3, *block as u64),
-        Some(Pending::Format { erased }) => (4, *erased as u64),
-    };
-    VjState {
-        head: VjHead { blocks: s.blocks, block: s.head, next: s.next_page, serial: s.next_serial, base: s.first_base_serial },
-        index: cells(s.index.iter().map(|place| (place.valve, place.address))),
-        group: cells(group.iter().map(|entry| (entry.key, entry.word))),
-        pages,
-        operation,
-        progress,
-    }
-}
-
-fn answer<T>(number: u8, value: T) -> Result<T, Refused> {
-    if number == 0 { Ok(value) } else { Err(Refused(number)) }
-}
-
-fn opening(medium: &[u8], state: VjState, valve: u16) -> Result<u64, Refused> {
-    let r = unsafe { vj_opening(medium.as_ptr(), medium.len(), state, valve) };
-    answer(r.number, r.word)
-}
-
-fn pick(medium: &[u8], state: VjState) -> Result<Option<usize>, Refused> {
-    let r = unsafe { vj_pick(medium.as_ptr(), medium.len(), state) };
-    answer(r.number, (r.found != 0).then_some(r.block as usize))
-}
-
-fn survey(medium: &[u8], state: VjState) -> Result<[[u32; 3]; 16], Refused> {
-    let r = unsafe { vj_survey(medium.as_ptr(), medium.len(), state) };
-    answer(r.number, std::array::from_fn(|block| std::array::from_fn(|column| u32::from(r.counts[3 * block + column]))))
-}
-
 #[test]
 fn readings_of_states_fit_and_unfit() {
     let mut random = Random::new(46);
@@ -265,18 +129,23 @@ fn readings_of_states_fit_and_unfit() {
         if random.one_in(3) && medium.len() >= 256 {
             random::damage(&mut random, &mut medium);
         }
-        assert_eq!(pick(&medium, flat(&state)), reader::pick(&medium, &state));
+        let raw = VjState::from(&state);
+        assert_eq!(pick(&medium, &raw), reader::pick(&medium, &state));
         picked += u32::from(matches!(reader::pick(&medium, &state), Ok(Some(_))));
-        assert_eq!(survey(&medium, flat(&state)), reader::survey(&medium, &state));
+        assert_eq!(survey(&medium, &raw), reader::survey(&medium, &state));
+        assert_eq!(count_available(&medium, &raw), reader::count_available(&medium, &state));
         for _ in 0..10 {
             let set = random.below(state.index.len() + 1);
             let valve = state.index.get(set).map_or(random.bits() as u16, |place| place.valve);
             let expected = reader::open(&medium, &state, valve);
-            assert_eq!(opening(&medium, flat(&state), valve), expected);
+            assert_eq!(open(&medium, &raw, valve), expected);
             seen[expected.map_or_else(|refused| refused.0, |_| 0) as usize] += 1;
         }
     }
-    assert!([0, 1, 6, 7, 18].iter().all(|&number| seen[number] >= 20), "each answer comes often: {seen:?}");
+    assert!(
+        [0, 1, 6, 7, 18].iter().all(|&number| seen[number] >= 20),
+        "each answer comes often: {seen:?}"
+    );
     assert!(picked >= 20, "a block is picked often: {picked}");
 }
 
@@ -285,17 +154,29 @@ fn an_operation_code_that_names_none_is_7_after_1() {
     let mut random = Random::new(47);
     for code in [5, 6, 255] {
         let medium = random::medium(&mut random);
-        let state = || {
-            let mut state = flat(&reader::recover(&medium).expect("a recovery"));
-            state.operation = code;
-            state
-        };
-        assert_eq!(pick(&medium, state()), Err(Refused(7)));
-        assert_eq!(survey(&medium, state()), Err(Refused(7)));
-        assert_eq!(opening(&medium, state(), 5), Err(Refused(7)));
-        assert_eq!(pick(&medium[1..], state()), Err(Refused(1)));
-        assert_eq!(survey(&medium[1..], state()), Err(Refused(1)));
-        assert_eq!(opening(&medium[1..], state(), 5), Err(Refused(1)));
+        let mut state = proved::recover(&medium).expect("a recovery");
+        state.operation = code;
+        assert_eq!(pick(&medium, &state), Err(Refused(7)));
+        assert_eq!(survey(&medium, &state), Err(Refused(7)));
+        assert_eq!(open(&medium, &state, 5), Err(Refused(7)));
+        assert_eq!(count_available(&medium, &state), Err(Refused(7)));
+        assert_eq!(pick(&medium[1..], &state), Err(Refused(1)));
+        assert_eq!(survey(&medium[1..], &state), Err(Refused(1)));
+        assert_eq!(open(&medium[1..], &state, 5), Err(Refused(1)));
+        assert_eq!(count_available(&medium[1..], &state), Err(Refused(1)));
+    }
+}
+
+#[test]
+fn pages_are_parts_of_the_medium() {
+    let bytes = vec![0xFF; 16384];
+    for length in [0, 1, 255, 256, 257, 4095, 16384] {
+        let medium = &bytes[..length];
+        for p in [0, 1, 15, 63, 64, usize::MAX / 256, usize::MAX / 256 + 1, usize::MAX] {
+            let (page, expected) = (proved::page(medium, p), reader::page(medium, p));
+            assert_eq!(page.len(), expected.len());
+            assert!(page.is_empty() || std::ptr::eq(page, expected));
+        }
     }
 }
 
@@ -324,23 +205,26 @@ fn small_examples() {
     assert_eq!(recover(&laid(&[base, page(9, 3, 2, &[(5, 1000)])])), Err(Refused(2)));
     assert_eq!(recover(&laid(&[base, base])), Err(Refused(3)));
     assert_eq!(recover(&laid(&[])), Err(Refused(4)));
-    assert_eq!(recover(&laid(&[base, page(1, 3, 2, &[(5, 1000)]), page(1, 3, 4, &[(5, 1000)])])), Err(Refused(5)));
+    assert_eq!(
+        recover(&laid(&[base, page(1, 3, 2, &[(5, 1000)]), page(1, 3, 4, &[(5, 1000)])])),
+        Err(Refused(5))
+    );
     assert_eq!(recover(&laid(&[page(2, 3, 1, &[(5, 0)])])), Err(Refused(6)));
 
     let morning = laid(&[base, page(1, 3, 2, &[(5, 1000), (7, 20)]), page(1, 3, 3, &[(32773, 0)])]);
     assert_eq!(log(&morning, 2, 3), (Err(Refused(17)), vec![9; 2], vec![9; 3]));
     assert_eq!(log(&morning, 4, 3), (Ok(3), vec![5, 7, 32773, 9], vec![1000, 20, 0]));
-    let state = recover(&morning).expect("a recovery");
-    assert_eq!(opening(&morning, flat(&state), 7), Ok(20));
-    assert_eq!(opening(&morning, flat(&state), 5), Err(Refused(18)));
+    let state = proved::recover(&morning).expect("a recovery");
+    assert_eq!(open(&morning, &state, 7), Ok(20));
+    assert_eq!(open(&morning, &state, 5), Err(Refused(18)));
 
-    let state = recover(&formatted).expect("a recovery");
-    assert_eq!(opening(&formatted, flat(&state), 5), Err(Refused(18)));
-    assert_eq!(pick(&formatted, flat(&state)), Ok(None));
-    let rows = survey(&formatted, flat(&state)).expect("a survey");
+    let state = proved::recover(&formatted).expect("a recovery");
+    assert_eq!(open(&formatted, &state, 5), Err(Refused(18)));
+    assert_eq!(pick(&formatted, &state), Ok(None));
+    let rows = survey(&formatted, &state).expect("a survey");
     assert_eq!(rows[..5], [[1, 15, 0], [0, 16, 0], [0, 16, 0], [0, 16, 0], [0, 0, 0]]);
     let five_blocks = [formatted, vec![0xFF; 4096]].concat();
-    assert_eq!(opening(&five_blocks, flat(&state), 5), Err(Refused(7)));
-    assert_eq!(pick(&five_blocks, flat(&state)), Err(Refused(7)));
-    assert_eq!(survey(&five_blocks, flat(&state)), Err(Refused(7)));
+    assert_eq!(open(&five_blocks, &state, 5), Err(Refused(7)));
+    assert_eq!(pick(&five_blocks, &state), Err(Refused(7)));
+    assert_eq!(survey(&five_blocks, &state), Err(Refused(7)));
 }

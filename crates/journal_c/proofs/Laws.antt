@@ -1,6 +1,6 @@
 -- Laws of the flat structs, in the shapes that the code's proofs ask.
 use mathlib.Core.Path.{_≡_, refl, sym, ap, _∙_}
-use mathlib.Core.Bool.{Bool, true, false, cond, not, _&&_}
+use mathlib.Core.Bool.{true, false, not}
 use mathlib.Core.Option.{Option, none, some}
 use mathlib.Core.List.{List, [], _∷_}
 use Prim.Native.Nat.{ℕ, _+_, _*_, _/_, _%_, _≤_, _<_}
@@ -9,20 +9,21 @@ use native.Mathlib.Decide.{decLt}
 use lib.ListN.{length, getD, set, length-set}
 use lib.Seq.{ext-getD, getD-set-same, getD-set-other}
 use lib.Dec.{eqb, leb}
-use borrow.Author.Tests.{ne-eqb, le-leb, lt-leb, leb-true, not-true, not-false}
+use borrow.Author.Tests.{ne-eqb, le-leb, lt-leb, leb-true}
 use Rattle.lists.specs.Lists.{valueOr, table}
 use Rattle.lists.specs.Cells.{Entry, keysOf, wordsOf}
 use Rattle.codec.specs.Codec.{putAt}
-use Rattle.lists.specs.Needs.{Need, need, checked}
-use Rattle.lists.proofs.Laws.{by-cases, and-l, and-r, length-table, get-table}
+use Rattle.lists.specs.Needs.{Need, need, checked, numberOf}
+use Rattle.lists.proofs.Laws.{by-cases, and-l, and-r, numbered, length-table, get-table}
 use Rattle.flash.specs.Medium.{views, pageAt}
 use Rattle.nodes.specs.Nodes.{wordAt, pickBelow}
-use Rattle.blocks.specs.Blocks.{sizeOk}
+use Rattle.blocks.specs.Blocks.{available}
 use Rattle.page.specs.Pages.{View}
-use Rattle.state.specs.declared.State.{State}
-use Rattle.state.specs.declared.Operation.{Operation}
-use Rattle.state.specs.declared.Operation.the-variants.{Idle, Append, Commit, Collect, Format}
-use Rattle.state.specs.State.{Held, meaning}
+use Rattle.state.specs.State.{Held, meaning, stateNeeds}
+use Rattle.flat.specs.declared.VjState.{VjState}
+use Rattle.flat.specs.declared.Lent.{Lent}
+use Rattle.flat.specs.Flat.{heldBy, heldIn, unknownNeeds}
+use Rattle.flat.proofs.Laws.{unknown-says, unknown-refuses, lent-none, lent-some}
 use Rattle.recovery.specs.Recovery.{Recovery, refused, recovered, recover, recoverNeeds, changesOf, logOf, groups, recoveredState}
 use Rattle.recover.specs.declared.Recovered.{Recovered}
 use Rattle.recover.specs.Told as told
@@ -33,78 +34,11 @@ use Rattle.read.specs.declared.Opened.{Opened}
 use Rattle.read.specs.declared.Opened.the-variants as opened
 use Rattle.read.specs.declared.Picked.{Picked}
 use Rattle.read.specs.declared.Picked.the-variants as picked
-use Rattle.read.specs.Answers.{logRead, openedOf, pickedOf, surveyedOf}
-use Rattle.readings.specs.Readings.{LogRead, Answer, changes, unread, longEnough, readInto, readLog, Opening, word, openingNeeds, openingOf, placeOf, Pick, nothing, block, pickedBlock, stateNeeds, pickOf, counts, surveyOf}
-use Rattle.journal_c.specs.declared.Named.{Named}
-use Rattle.journal_c.specs.declared.VjState.{VjState}
-use Rattle.journal_c.specs.declared.Lent.{Lent}
-use Rattle.journal_c.specs.Flat.{operationOf, namedBy, heldWith, heldBy, heldIn, Found, found, stateIn, foundBy, answerBy, logBy, IsPage, numberUnknown, openingLent, openingBy, pickLent, pickBy, surveyLent, joined, Joined, joinedIn, surveyBy}
-
--- ---- the state
-
-module _ (o : Operation) where
-  pub code-idle : o ≡ Idle → operationOf 0 0 ≡ some o
-  unfolding operationOf
-  code-idle e = rw e
-
-  module _ (k : ℕ) where
-    pub code-append : o ≡ Append k → operationOf 1 k ≡ some o
-    unfolding operationOf
-    code-append e = rw e
-
-    pub code-commit : o ≡ Commit k → operationOf 2 k ≡ some o
-    unfolding operationOf
-    code-commit e = rw e
-
-    pub code-collect : o ≡ Collect k → operationOf 3 k ≡ some o
-    unfolding operationOf
-    code-collect e = rw e
-
-    pub code-format : o ≡ Format k → operationOf 4 k ≡ some o
-    unfolding operationOf
-    code-format e = rw e
-
-pub flat-is : (s : State) (code k : ℕ) → operationOf code k ≡ some (s .operation)
-    → heldBy (record { head = s .head; index = s .index; group = s .group; pages = s .pages; operation = code; progress = k }) ≡ some (meaning s)
-unfolding heldBy heldWith
-flat-is s code k e = rw e
-
--- the operation that a code names
-module _ (c k : ℕ) where
-  pub name-idle : c ≡ 0 → namedBy (record { known = true; operation = Idle }) ≡ operationOf c k
-  unfolding namedBy operationOf
-  name-idle e = rw e
-
-  pub name-append : c ≡ 1 → namedBy (record { known = true; operation = Append k }) ≡ operationOf c k
-  unfolding namedBy operationOf
-  name-append e = rw e
-
-  pub name-commit : c ≡ 2 → namedBy (record { known = true; operation = Commit k }) ≡ operationOf c k
-  unfolding namedBy operationOf
-  name-commit e = rw e
-
-  pub name-collect : c ≡ 3 → namedBy (record { known = true; operation = Collect k }) ≡ operationOf c k
-  unfolding namedBy operationOf
-  name-collect e = rw e
-
-  pub name-format : c ≡ 4 → namedBy (record { known = true; operation = Format k }) ≡ operationOf c k
-  unfolding namedBy operationOf
-  name-format e = rw e
-
-  pub name-none : (c ≡ 0 → ⊥) → (c ≡ 1 → ⊥) → (c ≡ 2 → ⊥) → (c ≡ 3 → ⊥) → (c ≡ 4 → ⊥) → namedBy (record { known = false; operation = Idle }) ≡ operationOf c k
-  unfolding namedBy operationOf
-  name-none a b d e f = rw (ne-eqb c 0 a, ne-eqb c 1 b, ne-eqb c 2 d, ne-eqb c 3 e, ne-eqb c 4 f)
-
-unflat-by : (b : Bool) (o : Operation) (f : VjState)
-    → heldIn (record { known = b; state = record { head = f .head; index = f .index; group = f .group; pages = f .pages; operation = o } }) ≡ heldWith f (cond b (some o) none)
-unfolding heldIn heldWith
-unflat-by true o f = refl
-unflat-by false o f = refl
-
-pub unflat-is : (f : VjState) (n : Named) → namedBy n ≡ operationOf (f .operation) (f .progress)
-    → heldIn (record { known = n .known; state = record { head = f .head; index = f .index; group = f .group; pages = f .pages; operation = n .operation } }) ≡ heldBy f
-unfolding heldBy namedBy
-unflat-is f n e = unflat-by (n .known) (n .operation) f ∙ ap (heldWith f) e
+use Rattle.read.specs.declared.Supplied.{Supplied}
+use Rattle.read.specs.declared.Supplied.the-variants as supplied
+use Rattle.read.specs.Answers.{logRead, openedOf, pickedOf, surveyedOf, suppliedOf}
+use Rattle.readings.specs.Readings.{LogRead, Answer, changes, unread, longEnough, filed, readInto, readLog, Opening, word, openingNeeds, openingOf, placeOf, Pick, nothing, block, pickedBlock, pickOf, Survey, counts, surveyOf, Supply, pages, availableOf}
+use Rattle.journal_c.specs.Flat.{Found, found, stateIn, foundBy, answerBy, logBy, IsPage, openingLent, openingBy, pickLent, pickBy, surveyLent, joined, Joined, joinedIn, surveyBy, supplyLent, supplyBy}
 
 -- ---- recovery
 
@@ -128,11 +62,7 @@ found-is m r f t e = short-told m r f e ∙ ap (λ u. some (short u)) (t .is) �
 
 -- ---- no condition has the number 0
 
-unfoldable numbered : List Need → Bool
-numbered [] = true
-numbered (c ∷ cs) = leb 1 (c .number) && numbered cs
-
-by-number : {A : Type 0} (P : A → Type 0) (refuse : ℕ → A) (cs : List Need) (a : A) → numbered cs ≡ true → ((n : ℕ) → 1 ≤ n → P (refuse n)) → P a → P (checked refuse cs a)
+pub by-number : {A : Type 0} (P : A → Type 0) (refuse : ℕ → A) (cs : List Need) (a : A) → numbered cs ≡ true → ((n : ℕ) → 1 ≤ n → P (refuse n)) → P a → P (checked refuse cs a)
 unfolding checked numbered
 by-number P refuse [] a z f p = p
 by-number P refuse (c ∷ cs) a z f p =
@@ -140,28 +70,28 @@ by-number P refuse (c ∷ cs) a z f p =
     (λ h. rw h (by-number P refuse cs a (and-r (leb 1 (c .number)) (numbered cs) z) f p))
     (λ h. rw h (f (c .number) (leb-true 1 (c .number) (and-l (leb 1 (c .number)) (numbered cs) z))))
 
--- an answer that refuses has a number
-abbrev Says : LogRead → Type 0
-Says l = (k : ℕ) → l .answer ≡ Answer.turnedBack k → 1 ≤ k
+-- an answer that refuses has a number that is not 0
+abbrev pub Says : {A : Type 0} → (ℕ → A) → A → Type 0
+Says refuse a = (k : ℕ) → a ≡ refuse k → 1 ≤ k
 
-says-refused : (ks ws : List ℕ) (n : ℕ) → 1 ≤ n → Says (unread ks ws n)
-says-refused ks ws n h k e = let z : n ≡ k = cc in omega arith
+says-refused : (n : ℕ) → 1 ≤ n → Says Answer.turnedBack (Answer.turnedBack n)
+says-refused n h k e = let z : n ≡ k = cc in omega arith
 
-says-changes : (ks ws : List ℕ) (n : ℕ) → Says (record { answer = changes n; keys = ks; words = ws })
-says-changes ks ws n k e = let z : _≡_ {A = ℕ} 0 1 = cc in absurd (omega arith)
+says-changes : (n : ℕ) → Says Answer.turnedBack (changes n)
+says-changes n k e = let z : _≡_ {A = ℕ} 0 1 = cc in absurd (omega arith)
 
-into-says : (ks ws : List ℕ) (log : List (List Entry)) (s : Held) → Says (readInto ks ws (recovered log s))
-unfolding readInto numbered
+into-says : (ks ws : List ℕ) (log : List (List Entry)) (s : Held) → Says Answer.turnedBack (readInto ks ws (recovered log s) .answer)
+unfolding readInto filed numbered
 into-says ks ws log s =
-    by-number Says (unread ks ws) (need 17 (longEnough ks ws (length (changesOf log))) ∷ [])
+    by-number (λ (l : LogRead). Says Answer.turnedBack (l .answer)) (unread ks ws) (need 17 (longEnough ks ws (length (changesOf log))) ∷ [])
     (record { answer = changes (length (changesOf log)); keys = putAt ks 0 (keysOf (changesOf log)); words = putAt ws 0 (wordsOf (changesOf log)) }) refl
-    (says-refused ks ws) (says-changes (putAt ks 0 (keysOf (changesOf log))) (putAt ws 0 (wordsOf (changesOf log))) (length (changesOf log)))
+    says-refused (says-changes (length (changesOf log)))
 
-log-says : (n : ℕ) (v : List View) (ks ws : List ℕ) → Says (readLog n v ks ws)
+log-says : (n : ℕ) (v : List View) (ks ws : List ℕ) → Says Answer.turnedBack (readLog n v ks ws .answer)
 unfolding readLog recover numbered
 log-says n v ks ws =
-    by-number (λ (R : Recovery). Says (readInto ks ws R)) refused (recoverNeeds n v) (recovered (logOf (valueOr [] (groups v))) (recoveredState v)) refl
-    (λ k h. unfold readInto in says-refused ks ws k h)
+    by-number (λ (R : Recovery). Says Answer.turnedBack (readInto ks ws R .answer)) refused (recoverNeeds n v) (recovered (logOf (valueOr [] (groups v))) (recoveredState v)) refl
+    (λ k h. unfold readInto in says-refused k h)
     (into-says ks ws (logOf (valueOr [] (groups v))) (recoveredState v))
 
 module _ (m ks ws ks′ ws′ : List ℕ) (r : Logged) (e : logRead r ks′ ws′ ≡ readLog (length m) (views m) ks ws) (n : ℕ) where
@@ -186,31 +116,6 @@ pub page-out : (m : List ℕ) (p : ℕ) → length m / 256 ≤ p → IsPage m p 
 unfolding pageAt
 page-out m p h = let l : length m < 256 * p + 256 = omega arith in record { bytes = rw (lt-leb _ _ l); start = rw (lt-leb _ _ l); size = rw (lt-leb _ _ l) }
 
--- ---- the readings of a lent state
-
-module _ (n : ℕ) (b : Bool) (e : b ≡ sizeOk n) where
-  pub unknown-size : not b ≡ true → 1 ≡ numberUnknown n
-  unfolding numberUnknown checked
-  unknown-size q = rw (← e, not-true b q)
-
-  pub unknown-state : not b ≡ false → 7 ≡ numberUnknown n
-  unfolding numberUnknown checked
-  unknown-state q = rw (← e, not-false b q)
-
--- an unknown operation is refused by a number that is not 0
-unknown-says : (n : ℕ) → 1 ≤ numberUnknown n
-unfolding numberUnknown checked
-unknown-says n = by-cases (sizeOk n) (λ h. rw h (omega arith)) (λ h. rw h (omega arith))
-
-module _ (f : VjState) (l : Lent) (e : heldIn l ≡ heldBy f) where
-  lent-none : not (l .known) ≡ true → heldBy f ≡ none
-  unfolding heldIn
-  lent-none q = sym e ∙ ap (λ (b : Bool). cond b (some (meaning (l .state))) none) (not-true (l .known) q)
-
-  lent-some : not (l .known) ≡ false → heldBy f ≡ some (meaning (l .state))
-  unfolding heldIn
-  lent-some q = sym e ∙ ap (λ (b : Bool). cond b (some (meaning (l .state))) none) (not-false (l .known) q)
-
 -- ---- the opening of a valve
 
 opening-turned : (n w : ℕ) → 1 ≤ n → openingBy (record { number = n; word = w }) ≡ Opening.turnedBack n
@@ -221,29 +126,26 @@ opening-word : (w : ℕ) → openingBy (record { number = 0; word = w }) ≡ wor
 unfolding openingBy
 opening-word w = refl
 
-opening-none : (n : ℕ) (v : List View) (valve : ℕ) → openingLent n v none valve ≡ Opening.turnedBack (numberUnknown n)
-unfolding openingLent numberUnknown checked
-opening-none n v valve = by-cases (sizeOk n) (λ h. rw h) (λ h. rw h)
+opening-none : (n : ℕ) (v : List View) (valve : ℕ) → openingLent n v none valve ≡ Opening.turnedBack (numberOf (unknownNeeds n))
+unfolding openingLent
+opening-none n v valve = unknown-refuses Opening.turnedBack n (word 0)
 
 opening-some : (n : ℕ) (v : List View) (s : Held) (valve : ℕ) → openingLent n v (some s) valve ≡ openingOf n v s valve
 unfolding openingLent
 opening-some n v s valve = refl
 
-abbrev SaysOpening : Opening → Type 0
-SaysOpening o = (k : ℕ) → o ≡ Opening.turnedBack k → 1 ≤ k
-
-opening-says : (n : ℕ) (v : List View) (s : Held) (valve : ℕ) → SaysOpening (openingOf n v s valve)
+opening-says : (n : ℕ) (v : List View) (s : Held) (valve : ℕ) → Says Opening.turnedBack (openingOf n v s valve)
 unfolding openingOf numbered
 opening-says n v s valve =
-    by-number SaysOpening Opening.turnedBack (openingNeeds n v s valve) (word (valueOr 0 (wordAt v (placeOf s valve)))) refl
+    by-number (Says Opening.turnedBack) Opening.turnedBack (openingNeeds n v s valve) (word (valueOr 0 (wordAt v (placeOf s valve)))) refl
     (λ j h k e. let z : j ≡ k = cc in omega arith)
     (λ k e. let z : _≡_ {A = ℕ} 0 1 = cc in absurd (omega arith))
 
 module _ (m : List ℕ) (f : VjState) (l : Lent) (e : heldIn l ≡ heldBy f) (valve : ℕ) where
-  pub opening-unknown : (u : ℕ) → not (l .known) ≡ true → u ≡ numberUnknown (length m) → openingBy (record { number = u; word = 0 }) ≡ openingLent (length m) (views m) (heldBy f) valve
+  pub opening-unknown : (u : ℕ) → not (l .known) ≡ true → u ≡ numberOf (unknownNeeds (length m)) → openingBy (record { number = u; word = 0 }) ≡ openingLent (length m) (views m) (heldBy f) valve
   opening-unknown u q z =
       ap (λ (k : ℕ). openingBy (record { number = k; word = 0 })) z
-      ∙ opening-turned (numberUnknown (length m)) 0 (unknown-says (length m))
+      ∙ opening-turned (numberOf (unknownNeeds (length m))) 0 (unknown-says (length m))
       ∙ sym (opening-none (length m) (views m) valve)
       ∙ ap (λ (o : Option Held). openingLent (length m) (views m) o valve) (sym (lent-none f l e q))
 
@@ -273,33 +175,30 @@ pick-by-block : (b : ℕ) → pickBy (record { number = 0; found = 1; block = b 
 unfolding pickBy
 pick-by-block b = refl
 
-pick-none : (n : ℕ) (v : List View) → pickLent n v none ≡ Pick.turnedBack (numberUnknown n)
-unfolding pickLent numberUnknown checked
-pick-none n v = by-cases (sizeOk n) (λ h. rw h) (λ h. rw h)
+pick-none : (n : ℕ) (v : List View) → pickLent n v none ≡ Pick.turnedBack (numberOf (unknownNeeds n))
+unfolding pickLent
+pick-none n v = unknown-refuses Pick.turnedBack n nothing
 
 pick-some : (n : ℕ) (v : List View) (s : Held) → pickLent n v (some s) ≡ pickOf n v s
 unfolding pickLent
 pick-some n v s = refl
 
-abbrev SaysPick : Pick → Type 0
-SaysPick o = (k : ℕ) → o ≡ Pick.turnedBack k → 1 ≤ k
-
-picked-says : (o : Option ℕ) → SaysPick (pickedBlock o)
+picked-says : (o : Option ℕ) → Says Pick.turnedBack (pickedBlock o)
 picked-says none k e = let z : _≡_ {A = ℕ} 0 1 = cc in absurd (omega arith)
 picked-says (some b) k e = let z : _≡_ {A = ℕ} 0 1 = cc in absurd (omega arith)
 
-pick-says : (n : ℕ) (v : List View) (s : Held) → SaysPick (pickOf n v s)
+pick-says : (n : ℕ) (v : List View) (s : Held) → Says Pick.turnedBack (pickOf n v s)
 unfolding pickOf numbered
 pick-says n v s =
-    by-number SaysPick Pick.turnedBack (stateNeeds n v s) (pickedBlock (pickBelow v (s .head) (s .index) (s .head .blocks))) refl
+    by-number (Says Pick.turnedBack) Pick.turnedBack (stateNeeds n v s) (pickedBlock (pickBelow v (s .head) (s .index) (s .head .blocks))) refl
     (λ j h k e. let z : j ≡ k = cc in omega arith)
     (picked-says (pickBelow v (s .head) (s .index) (s .head .blocks)))
 
 module _ (m : List ℕ) (f : VjState) (l : Lent) (e : heldIn l ≡ heldBy f) where
-  pub pick-unknown : (u : ℕ) → not (l .known) ≡ true → u ≡ numberUnknown (length m) → pickBy (record { number = u; found = 0; block = 0 }) ≡ pickLent (length m) (views m) (heldBy f)
+  pub pick-unknown : (u : ℕ) → not (l .known) ≡ true → u ≡ numberOf (unknownNeeds (length m)) → pickBy (record { number = u; found = 0; block = 0 }) ≡ pickLent (length m) (views m) (heldBy f)
   pick-unknown u q z =
       ap (λ (k : ℕ). pickBy (record { number = k; found = 0; block = 0 })) z
-      ∙ pick-turned (numberUnknown (length m)) 0 0 (unknown-says (length m))
+      ∙ pick-turned (numberOf (unknownNeeds (length m))) 0 0 (unknown-says (length m))
       ∙ sym (pick-none (length m) (views m))
       ∙ ap (λ (o : Option Held). pickLent (length m) (views m) o) (sym (lent-none f l e q))
 
@@ -345,9 +244,9 @@ survey-turned : (n : ℕ) (xs : List ℕ) → 1 ≤ n → surveyBy (record { num
 unfolding surveyBy
 survey-turned n xs h = rw (ne-eqb n 0 (λ q. absurd (omega (arith, h, q))))
 
-survey-none : (n : ℕ) (v : List View) → joinedIn (surveyLent n v none) ≡ Joined.turnedBack (numberUnknown n)
-unfolding surveyLent numberUnknown checked joinedIn
-survey-none n v = by-cases (sizeOk n) (λ h. rw h) (λ h. rw h)
+survey-none : (n : ℕ) (v : List View) → joinedIn (surveyLent n v none) ≡ Joined.turnedBack (numberOf (unknownNeeds n))
+unfolding surveyLent joinedIn
+survey-none n v = ap joinedIn (unknown-refuses Survey.turnedBack n (counts []))
 
 survey-some : (n : ℕ) (v : List View) (s : Held) → surveyLent n v (some s) ≡ surveyOf n v s
 unfolding surveyLent
@@ -358,11 +257,11 @@ unfolding surveyBy joinedIn
 survey-joined n rows = by-cases (eqb n 0) (λ h. rw h) (λ h. rw h)
 
 module _ (m : List ℕ) (f : VjState) (l : Lent) (e : heldIn l ≡ heldBy f) where
-  pub survey-unknown : (u : ℕ) (xs : List ℕ) → not (l .known) ≡ true → u ≡ numberUnknown (length m)
+  pub survey-unknown : (u : ℕ) (xs : List ℕ) → not (l .known) ≡ true → u ≡ numberOf (unknownNeeds (length m))
       → surveyBy (record { number = u; counts = xs }) ≡ joinedIn (surveyLent (length m) (views m) (heldBy f))
   survey-unknown u xs q z =
       ap (λ (k : ℕ). surveyBy (record { number = k; counts = xs })) z
-      ∙ survey-turned (numberUnknown (length m)) xs (unknown-says (length m))
+      ∙ survey-turned (numberOf (unknownNeeds (length m))) xs (unknown-says (length m))
       ∙ sym (survey-none (length m) (views m))
       ∙ ap (λ (o : Option Held). joinedIn (surveyLent (length m) (views m) o)) (sym (lent-none f l e q))
 
@@ -373,3 +272,48 @@ module _ (m : List ℕ) (f : VjState) (l : Lent) (e : heldIn l ≡ heldBy f) whe
       ∙ survey-joined n rows
       ∙ ap joinedIn (g ∙ sym (survey-some (length m) (views m) (meaning (l .state))))
       ∙ ap (λ (o : Option Held). joinedIn (surveyLent (length m) (views m) o)) (sym (lent-some f l e q))
+
+-- ---- available pages
+
+supply-turned : (n k : ℕ) → 1 ≤ n → supplyBy (record { number = n; pages = k }) ≡ Supply.turnedBack n
+unfolding supplyBy
+supply-turned n k h = rw (ne-eqb n 0 (λ q. absurd (omega (arith, h, q))))
+
+supply-pages : (k : ℕ) → supplyBy (record { number = 0; pages = k }) ≡ pages k
+unfolding supplyBy
+supply-pages k = refl
+
+supply-none : (n : ℕ) (v : List View) → supplyLent n v none ≡ Supply.turnedBack (numberOf (unknownNeeds n))
+unfolding supplyLent
+supply-none n v = unknown-refuses Supply.turnedBack n (pages 0)
+
+supply-some : (n : ℕ) (v : List View) (s : Held) → supplyLent n v (some s) ≡ availableOf n v s
+unfolding supplyLent
+supply-some n v s = refl
+
+supply-says : (n : ℕ) (v : List View) (s : Held) → Says Supply.turnedBack (availableOf n v s)
+unfolding availableOf numbered
+supply-says n v s =
+    by-number (Says Supply.turnedBack) Supply.turnedBack (stateNeeds n v s) (pages (available v (s .head))) refl
+    (λ j h k e. let z : j ≡ k = cc in omega arith)
+    (λ k e. let z : _≡_ {A = ℕ} 0 1 = cc in absurd (omega arith))
+
+module _ (m : List ℕ) (f : VjState) (l : Lent) (e : heldIn l ≡ heldBy f) where
+  pub supply-unknown : (u : ℕ) → not (l .known) ≡ true → u ≡ numberOf (unknownNeeds (length m)) → supplyBy (record { number = u; pages = 0 }) ≡ supplyLent (length m) (views m) (heldBy f)
+  supply-unknown u q z =
+      ap (λ (k : ℕ). supplyBy (record { number = k; pages = 0 })) z
+      ∙ supply-turned (numberOf (unknownNeeds (length m))) 0 (unknown-says (length m))
+      ∙ sym (supply-none (length m) (views m))
+      ∙ ap (λ (o : Option Held). supplyLent (length m) (views m) o) (sym (lent-none f l e q))
+
+  module _ (q : not (l .known) ≡ false) (r : Supplied) (g : suppliedOf r ≡ availableOf (length m) (views m) (meaning (l .state))) (n : ℕ) where
+    supply-lent : suppliedOf r ≡ supplyLent (length m) (views m) (heldBy f)
+    supply-lent = g ∙ sym (supply-some (length m) (views m) (meaning (l .state))) ∙ ap (λ (o : Option Held). supplyLent (length m) (views m) o) (sym (lent-some f l e q))
+
+    pub supply-refuses : r ≡ supplied.Refused n → supplyBy (record { number = n; pages = 0 }) ≡ supplyLent (length m) (views m) (heldBy f)
+    supply-refuses h =
+        let z : 1 ≤ n = supply-says (length m) (views m) (meaning (l .state)) n (sym g ∙ ap suppliedOf h) in
+        supply-turned n 0 z ∙ sym (ap suppliedOf h) ∙ supply-lent
+
+    pub supply-tells : r ≡ supplied.Pages n → supplyBy (record { number = 0; pages = n }) ≡ supplyLent (length m) (views m) (heldBy f)
+    supply-tells h = supply-pages n ∙ sym (ap suppliedOf h) ∙ supply-lent

@@ -1,59 +1,27 @@
--- What the flat structs say.
+-- What the answers of the readings say in their flat structs.
 use mathlib.Core.Path.{_≡_}
-use mathlib.Core.Bool.{cond, false}
+use mathlib.Core.Bool.{cond}
 use mathlib.Core.Option.{Option, none, some}
-use mathlib.Core.List.{List, [], _∷_}
+use mathlib.Core.List.{List, []}
 use Prim.Native.Nat.{ℕ, _+_, _*_, _/_, _%_}
 use lib.ListN.{length, getD}
 use lib.Dec.{eqb, leb}
 use Rattle.lists.specs.Lists.{table}
-use Rattle.lists.specs.Needs.{Need, need, checked}
-use Rattle.lists.specs.Cells.{listed}
+use Rattle.lists.specs.Needs.{checked}
 use Rattle.codec.specs.Codec.{part}
 use Rattle.page.specs.Pages.{View}
 use Rattle.flash.specs.Medium.{pageAt}
-use Rattle.blocks.specs.Blocks.{sizeOk}
-use Rattle.state.specs.declared.Operation.{Operation}
-use Rattle.state.specs.declared.Operation.the-variants.{Idle, Append, Commit, Collect, Format}
-use Rattle.state.specs.State.{Held, held, pendingOf, meaning}
+use Rattle.state.specs.State.{Held}
+use Rattle.flat.specs.Flat.{heldBy, unknownNeeds}
 use Rattle.recovery.specs.Recovery.{Recovery, refused, recovered}
-use Rattle.readings.specs.Readings.{LogRead, Answer, changes, Opening, word, openingOf, Pick, nothing, block, pickOf, Survey, counts, surveyOf}
-use Rattle.journal_c.specs.declared.Named.{Named}
-use Rattle.journal_c.specs.declared.Lent.{Lent}
-use Rattle.journal_c.specs.declared.VjState.{VjState}
+use Rattle.readings.specs.Readings.{LogRead, Answer, changes, Opening, word, openingOf, Pick, nothing, block, pickOf, Survey, counts, surveyOf, Supply, pages, availableOf}
 use Rattle.journal_c.specs.declared.VjRecovered.{VjRecovered}
 use Rattle.journal_c.specs.declared.VjCount.{VjCount}
 use Rattle.journal_c.specs.declared.VjPart.{VjPart}
 use Rattle.journal_c.specs.declared.VjWord.{VjWord}
 use Rattle.journal_c.specs.declared.VjPick.{VjPick}
 use Rattle.journal_c.specs.declared.VjSurvey.{VjSurvey}
-
--- ---- the state
-
--- the operation that a code names, with its progress; a code past 4 names none
-unfoldable pub operationOf : ℕ → ℕ → Option Operation
-operationOf code k =
-    cond (eqb code 0) (some Idle)
-    (cond (eqb code 1) (some (Append k))
-    (cond (eqb code 2) (some (Commit k))
-    (cond (eqb code 3) (some (Collect k))
-    (cond (eqb code 4) (some (Format k)) none))))
-
--- what a flat state holds with this operation
-unfoldable pub heldWith : VjState → Option Operation → Option Held
-heldWith f none = none
-heldWith f (some o) = some (held (f .head) (listed (f .index)) (pendingOf o (f .group) (f .pages)))
-
--- what a flat state holds; nothing where its code names no operation
-unfoldable pub heldBy : VjState → Option Held
-heldBy f = heldWith f (operationOf (f .operation) (f .progress))
-
--- what the code's two answers say
-unfoldable pub namedBy : Named → Option Operation
-namedBy n = cond (n .known) (some (n .operation)) none
-
-unfoldable pub heldIn : Lent → Option Held
-heldIn l = cond (l .known) (some (meaning (l .state))) none
+use Rattle.journal_c.specs.declared.VjPages.{VjPages}
 
 -- ---- recovery: a refusal, or the state
 
@@ -94,14 +62,6 @@ pub record IsPage (m : List ℕ) (p : ℕ) (r : VjPart) : Type 0 where
 
 -- ---- the readings of a lent state
 
--- a state whose code names no operation counts under condition 7
-abbrev pub unknownNeeds : ℕ → List Need
-unknownNeeds n = need 1 (sizeOk n) ∷ need 7 false ∷ []
-
--- the number of its refusal
-unfoldable pub numberUnknown : ℕ → ℕ
-numberUnknown n = checked (λ k. k) (unknownNeeds n) 0
-
 -- the opening of a valve
 unfoldable pub openingLent : ℕ → List View → Option Held → ℕ → Opening
 openingLent n v none valve = checked Opening.turnedBack (unknownNeeds n) (word 0)
@@ -137,3 +97,11 @@ joinedIn (counts rows) = inOne (joined rows)
 
 unfoldable pub surveyBy : VjSurvey → Joined
 surveyBy r = cond (eqb (r .number) 0) (inOne (r .counts)) (Joined.turnedBack (r .number))
+
+-- available pages
+unfoldable pub supplyLent : ℕ → List View → Option Held → Supply
+supplyLent n v none = checked Supply.turnedBack (unknownNeeds n) (pages 0)
+supplyLent n v (some s) = availableOf n v s
+
+unfoldable pub supplyBy : VjPages → Supply
+supplyBy r = cond (eqb (r .number) 0) (pages (r .pages)) (Supply.turnedBack (r .number))

@@ -6,11 +6,12 @@ use Prim.Native.Nat.{ℕ, zero, suc, _+_, _-_, _≤_, _<_}
 use native.Mathlib.Omega.{arith}
 use native.Mathlib.Numerals.{add-one}
 use native.Mathlib.Decide.{decLt}
-use borrow.Author.Tests.{not-true}
+use borrow.Author.Tests.{leb-true, not-true, not-false}
+use lib.Dec.{leb}
 use lib.ListN.{length, getD, take, drop, replicate, length-append, length-take, length-replicate, getD-replicate, List·getD-append, List·getD-eq-default}
 use lib.Seq.{getD-drop, getD-take, getD-append-add, getD-append-seam}
 use Rattle.lists.specs.declared.Cell.{Cell}
-use Rattle.lists.specs.Needs.{Need, checked}
+use Rattle.lists.specs.Needs.{Need, need, checked, numberOf}
 use Rattle.lists.specs.Lists.{keep, all, every, allBelow, oneIf, countBelow, table, first, Below}
 use Rattle.lists.specs.Cells.{cell, keysOf, wordsOf}
 
@@ -138,6 +139,57 @@ unfolding checked tests every
 checked-pass refused [] a h = refl
 checked-pass refused (c ∷ cs) a h = rw (and-l (c .holds) (every (tests cs)) h) (checked-pass refused cs a (and-r (c .holds) (every (tests cs)) h))
 
+-- conditions of two lists, one after the other
+pub checked-join : {A : Type 0} (refused : ℕ → A) (cs ds : List Need) (a : A) → checked refused (cs ++ ds) a ≡ checked refused cs (checked refused ds a)
+unfolding checked
+checked-join refused [] ds a = refl
+checked-join refused (c ∷ cs) ds a = by-cases (c .holds) (λ e. rw e (checked-join refused cs ds a)) (λ e. rw e)
+
+-- the number of the first that does not hold: r is what the code's test of the first condition gave
+module _ (r b : Bool) (n : ℕ) (cs : List Need) (e : r ≡ b) where
+  pub number-stop : not r ≡ true → n ≡ numberOf (need n b ∷ cs)
+  unfolding numberOf checked
+  number-stop h = rw (← e, not-true r h)
+
+  pub number-pass : (x : ℕ) → not r ≡ false → x ≡ numberOf cs → x ≡ numberOf (need n b ∷ cs)
+  unfolding numberOf checked
+  number-pass x h q = rw (← e, not-false r h) q
+
+pub number-none : 0 ≡ numberOf []
+unfolding numberOf checked
+number-none = refl
+
+pub ruleset chain = (number-stop, number-pass, number-none)
+
+-- 0 is the number of no condition
+unfoldable pub numbered : List Need → Bool
+numbered [] = true
+numbered (c ∷ cs) = leb 1 (c .number) && numbered cs
+
+-- without a number all conditions hold
+pub number-clear : (cs : List Need) → numbered cs ≡ true → numberOf cs ≡ 0 → every (tests cs) ≡ true
+unfolding numbered numberOf checked tests every
+number-clear [] z e = refl
+number-clear (c ∷ cs) z e =
+    by-cases (c .holds)
+    (λ h. and-both h (number-clear cs (and-r (leb 1 (c .number)) (numbered cs) z) (rw h at e)))
+    (λ h. let k = leb-true 1 (c .number) (and-l (leb 1 (c .number)) (numbered cs) z) in let y : c .number ≡ 0 = rw h at e in absurd (omega arith))
+
+-- some conditions refuse with their number
+pub number-refuses : {A : Type 0} (refused : ℕ → A) (cs : List Need) (a : A) (g : ℕ) → g ≡ numberOf cs → (g ≡ 0 → ⊥) → refused g ≡ checked refused cs a
+unfolding numberOf checked
+number-refuses refused [] a g e h = absurd (h e)
+number-refuses refused (c ∷ cs) a g e h =
+    by-cases (c .holds) (λ q. rw q (number-refuses refused cs a g (rw q at e) h)) (λ q. let y : g ≡ c .number = rw q at e in rw (q, y))
+
+-- and whatever follows them
+pub checked-stop : {A : Type 0} (refused : ℕ → A) (cs ds : List Need) (a : A) (g : ℕ) → g ≡ numberOf cs → (g ≡ 0 → ⊥) → refused g ≡ checked refused (cs ++ ds) a
+checked-stop refused cs ds a g e h = number-refuses refused cs (checked refused ds a) g e h ∙ sym (checked-join refused cs ds a)
+
+-- some conditions that hold, and those that follow them
+pub checked-on : {A : Type 0} (refused : ℕ → A) (cs ds : List Need) (a : A) (g : ℕ) → numbered cs ≡ true → g ≡ numberOf cs → g ≡ 0 → checked refused (cs ++ ds) a ≡ checked refused ds a
+checked-on refused cs ds a g z e h = checked-join refused cs ds a ∙ checked-pass refused cs (checked refused ds a) (number-clear cs z (sym e ∙ h))
+
 -- the condition at place i of some that all hold
 pub every-at : (i : ℕ) (bs : List Bool) → every bs ≡ true → getD bs i true ≡ true
 unfolding every
@@ -231,6 +283,10 @@ module _ {A : Type 0} (d : A) where
   pub length-first : (n : ℕ) (s : List A) → length (first d n s) ≡ n
   unfolding first
   length-first n s = omega (arith, length-append (take n s) (replicate (n - length s) d), length-take n s, length-replicate (n - length s) d)
+
+  pub first-none : (n : ℕ) (s : List A) → n ≡ 0 → first d n s ≡ []
+  unfolding first
+  first-none n s e = let z : 0 - length s ≡ 0 = omega arith in rw (e, z)
 
   pub get-first : (n i : ℕ) (s : List A) → i < n → getD (first d n s) i d ≡ getD s i d
   unfolding first

@@ -15,3 +15,7 @@ need n b = record { number = n; holds = b }
 unfoldable pub checked : {A : Type 0} → (ℕ → A) → List Need → A → A
 checked refused [] answer = answer
 checked refused (c ∷ cs) answer = cond (c .holds) (checked refused cs answer) (refused (c .number))
+
+-- the number of the first condition that does not hold, 0 where all do
+unfoldable pub numberOf : List Need → ℕ
+numberOf cs = checked (λ n. n) cs 0

@@ -26,7 +26,9 @@ use Rattle.calls.specs.Calls.{starting, serialsFor}
 use Rattle.recovery.specs.Recovery.{Placed, Group}
 use Rattle.step.specs.Step.{Step, isLast, groupPage, appended, committed, collected, pageNeeds, programming, appendStep, commitStep, moveStep, collectStep, due, stepOf}
 use Rattle.valve_log.specs.History.{UnderWay, collecting, History, counted}
-use Rattle.valve_log.proofs.Index.{valves, In, in-take, in-live, in-all, all-in, not-live, words-length, words-outside, sound-outside}
+use Rattle.index.proofs.Members.{In, in-take, in-all, all-in}
+use Rattle.nodes.proofs.Alive.{in-live, words-length}
+use Rattle.valve_log.proofs.Index.{valves, not-live, words-outside, sound-outside}
 use Rattle.valve_log.proofs.Views.{cut-lost, word-same}
 use Rattle.valve_log.proofs.Groups.{page-most}
 use Rattle.valve_log.proofs.Small.{small-part, small-places, small-words, SmallWords, narrow}

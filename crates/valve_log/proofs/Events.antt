@@ -17,7 +17,7 @@ use Rattle.page.specs.Pages.{Page, View, clean, spoilt, whole, isWhole, pagesFo
 use Rattle.page.proofs.Berger.{blanked}
 use Rattle.flash.specs.Medium.{views, seen, programmed, erased}
 use Rattle.flash.specs.Cuts.{CutProgram, CutErase}
-use Rattle.flash.proofs.Laws.{length-views}
+use Rattle.flash.proofs.Laws.{length-views, clean-in}
 use Rattle.flash.proofs.Steps.{AllGuarded, program-length, program-guarded, program-views, erase-length, erase-guarded, erase-views, length-cleaned, seen-cleaned, seen-uncleaned}
 use Rattle.flash.proofs.Cuts.{CutViews, cut-program-views, cut-program-guarded, cut-program-final, cut-erase-views, cut-erase-guarded}
 use Rattle.blocks.specs.Blocks.{sizeOk}
@@ -29,8 +29,9 @@ use Rattle.step.specs.Step.{Step, stepOf, mediumAfter}
 use Rattle.valve_log.specs.History.{UnderWay, nothing, appending, committing, collecting, History, history, Told, unchanged, beganAppend, beganCommit, beganCollect, steppedPage, counted, tell}
 use Rattle.valve_log.specs.Reached.{World, world, withState, stepDue, CutOf, Event, Moment, called, stepped, sameBytes, cutShort, recovered, happen}
 use Rattle.valve_log.specs.Reached
-use Rattle.valve_log.proofs.Index.{words-length, sound-keep, words-keep}
-use Rattle.valve_log.proofs.Views.{clean-in, one-keeps, one-lost}
+use Rattle.nodes.proofs.Alive.{words-length}
+use Rattle.valve_log.proofs.Index.{sound-keep, words-keep}
+use Rattle.valve_log.proofs.Views.{one-keeps, one-lost}
 use Rattle.valve_log.proofs.Present.{nil}
 use Rattle.valve_log.proofs.Groups.{lay, unopened}
 use Rattle.valve_log.proofs.Small.{small-zip, words-small}

@@ -13,8 +13,11 @@ use Rattle.lists.specs.Lists.{all, keep}
 use Rattle.lists.specs.Cells.{cell, Place}
 use Rattle.lists.proofs.Laws.{by-cases, and-r, all-head, all-tail, all-keep}
 use Rattle.index.specs.Index.{put, risingFrom, rising, assign, assignAll}
+use Rattle.index.proofs.Rising.{rising-tail, assign-rising}
 use Rattle.nodes.specs.Nodes.{inBlock, insertByAddress, byAddress, live}
-use Rattle.valve_log.proofs.Index.{valves, nodes, rising-tail, In, first, later, all-in, in-all, in-above, in-keep, in-insert, in-sorted, in-take, assign-rising}
+use Rattle.index.proofs.Members.{In, first, later, all-in, in-all, in-above, in-keep, in-take}
+use Rattle.nodes.proofs.Alive.{in-insert, in-sorted}
+use Rattle.valve_log.proofs.Index.{valves, nodes}
 
 in-cases : {x y : Cell} {l : List Cell} → In x (y ∷ l) → (x ≡ y) ⊎ In x l
 in-cases first = inl refl

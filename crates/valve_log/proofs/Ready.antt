@@ -29,7 +29,9 @@ use Rattle.calls.specs.Calls.{starting, serialsFor}
 use Rattle.step.specs.Step.{Step, isLast, groupPage, moved, addressed, appended, committed, collected, programming, appendStep, commitStep, moveStep, collectStep, due, stepOf}
 use Rattle.valve_log.specs.History.{History}
 use Rattle.valve_log.specs.Steady.{expected}
-use Rattle.valve_log.proofs.Index.{valves, In, in-take, in-live, in-all, all-in}
+use Rattle.index.proofs.Members.{In, in-take, in-all, all-in}
+use Rattle.nodes.proofs.Alive.{in-live}
+use Rattle.valve_log.proofs.Index.{valves}
 use Rattle.valve_log.proofs.Moves.{unique-live, live-in-block, moves-out}
 use Rattle.valve_log.proofs.Replay.{addressed-one}
 use Rattle.valve_log.proofs.Coupling.{Alive, alive-of, Coupled}

@@ -20,17 +20,18 @@ use Rattle.flash.proofs.Steps.{program-views}
 use Rattle.index.specs.Index.{within, removalsOk, lookup}
 use Rattle.blocks.specs.Blocks.{available}
 use Rattle.nodes.specs.Nodes.{wordAt, sound, live, pickBelow}
-use Rattle.state.specs.State.{Pending, append, commit, collect, Held, groupOk, basePages, pendingFit, fit}
+use Rattle.state.specs.State.{Pending, append, commit, collect, Held, groupOk, basePages, pendingFit, fit, stateNeeds}
 use Rattle.recovery.specs.Recovery.{Placed, wholes, sort, lastOf, noPage, Recovery}
 use Rattle.recovery.specs.Recovery
-use Rattle.readings.specs.Readings.{Opening, placeOf, openingNeeds, openingOf, Pick, pickedBlock, stateNeeds, pickOf, Survey, surveyOf}
+use Rattle.readings.specs.Readings.{Opening, placeOf, openingNeeds, openingOf, Pick, pickedBlock, pickOf, Survey, surveyOf}
 use Rattle.calls.specs.Calls.{Call, starting, zip, listsOk, roomFor, appendNeeds, appendOf, commitNeeds, commitOf, collectNeeds, collectOf}
 use Rattle.step.specs.Step.{Step, formatted, stepOf, mediumAfter}
 use Rattle.valve_log.specs.History.{History, Told, beganAppend, beganCommit, beganCollect}
 use Rattle.valve_log.specs.Reached.{World, world, withState, stepDue, Event, called, stepped, cutShort, recovered, happen, Reached}
 use Rattle.valve_log.specs.Steady.{expected, Answers, Steady}
 use Rattle.valve_log.proofs.Order.{all-sort, upto, sort-split}
-use Rattle.valve_log.proofs.Index.{In, first, later, in-live, all-in}
+use Rattle.index.proofs.Members.{In, first, later, all-in}
+use Rattle.nodes.proofs.Alive.{in-live}
 use Rattle.valve_log.proofs.Sound.{outcome, accepts}
 use Rattle.valve_log.proofs.Coupling.{alive-of, Coupled}
 use Rattle.valve_log.proofs.Due.{Good}

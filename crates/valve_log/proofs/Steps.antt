@@ -24,8 +24,11 @@ use Rattle.recovery.proofs.Pages.{pages-append}
 use Rattle.step.specs.Step.{isLast, groupPage, moved, addressed, appended, committed, collected}
 use Rattle.valve_log.specs.History.{nothing, appending, committing, collecting, History, history, counted}
 use Rattle.valve_log.proofs.Order.{from-parts, from-from, from-sort, walk-append, isBegin, base-snoc, base-group, starts-one, starts-more, consecutive-left, consecutive-right, consecutive-reaches, consecutive-below}
-use Rattle.valve_log.proofs.Index.{valves, nodes, nodesOf, within-same, keys-group, keys-words, words-length, rising-words, valves-words, tidy-assign, In, in-words, in-all, all-in, move-same, move-within}
-use Rattle.valve_log.proofs.Views.{clean-in}
+use Rattle.index.proofs.Keys.{within-same}
+use Rattle.index.proofs.Members.{In, in-all, all-in}
+use Rattle.nodes.proofs.Alive.{keys-words, words-length}
+use Rattle.valve_log.proofs.Index.{valves, nodes, nodesOf, keys-group, rising-words, valves-words, tidy-assign, in-words, move-same, move-within}
+use Rattle.flash.proofs.Laws.{clean-in}
 use Rattle.valve_log.proofs.Present.{PresentAll, nil, cons, present-snoc, present-set, group-words, group-sound}
 use Rattle.valve_log.proofs.Small.{Small}
 use Rattle.valve_log.proofs.Groups.{lay, ends-page, begins-page, page-most, lawful-nodes, lawful-base, lawful-moves, lay-snoc, lay-length, lay-all, lay-kind, lay-begins, Opened, enter-begin, enter-page, opened-any}

@@ -6,7 +6,7 @@ use mathlib.Core.List.{List, [], _∷_}
 use Prim.Native.Nat.{ℕ, zero, suc, _+_, _/_, _≤_, _<_}
 use native.Mathlib.Omega.{arith}
 use native.Mathlib.Decide.{decLt, ℕ-discrete}
-use lib.ListN.{length, getD, set, List·getD-eq-default}
+use lib.ListN.{length, set}
 use borrow.Author.Tests.{leb-false}
 use Rattle.lists.specs.declared.Cell.{Cell}
 use Rattle.lists.specs.Lists.{isSome}
@@ -28,17 +28,6 @@ unfolding isClean
 clean-is clean e = refl
 clean-is spoilt e = true-false e refl
 clean-is (whole pg) e = true-false e refl
-
-pub clean-in : (v : List View) (p : ℕ) → isClean (seen v p) ≡ true → p < length v
-unfolding seen
-clean-in v p e = go (decLt p (length v))
-  where
-    go : Dec (p < length v) → p < length v
-    go (yes h) = h
-    go (no h) =
-        let d : getD v p spoilt ≡ spoilt = List·getD-eq-default v spoilt {n = p} (omega arith) in
-        let s : isClean spoilt ≡ true = rw d at e in
-        true-false s (unfold isClean in refl)
 
 -- programming a clean page adds a whole page
 pub wholes-grow : (v : List View) (n p : ℕ) (pg : Page) → isClean (seen v p) ≡ true → Grow (placed (n + p) pg) (wholes n v) (wholes n (set v p (whole pg)))

@@ -1,8 +1,9 @@
 //! Shorthands of the tests.
 #![allow(dead_code)]
 
+use journal_tests::random::{Action, Outcome};
 use journal_tests::reader::*;
-use journal_tests::writer::{self, State, Step};
+use journal_tests::writer::{self, State, Step, Touched};
 
 pub fn refused<T>(number: u8) -> Result<T, Refused> {
     Err(Refused(number))
@@ -65,5 +66,36 @@ pub fn recovery_number(medium: &[u8]) -> u8 {
     match recover(medium) {
         Ok(_) => 0,
         Err(Refused(number)) => number,
+    }
+}
+
+/// A name for what happened, to see that everything did.
+pub fn happening(action: &Action, outcome: Outcome) -> String {
+    let action = match action {
+        Action::Format => "format",
+        Action::Append { .. } => "append",
+        Action::Commit => "commit",
+        Action::Collect { .. } => "collect",
+        Action::Step => "step",
+        Action::Cut => "cut between",
+        Action::CutInside { .. } => "cut inside",
+        Action::Recover => "recover",
+        Action::Read(_) => "read",
+    };
+    match outcome {
+        Outcome::Refused(number) => format!("{action} refused {number}"),
+        Outcome::Accepted => action.to_string(),
+        Outcome::Stepped(step) => format!("{action} {}", touched(Some(step.touched))),
+        Outcome::Cut { struck, complete } => {
+            format!("{action} {}{}", touched(struck), if complete { " complete" } else { "" })
+        }
+    }
+}
+
+fn touched(what: Option<Touched>) -> &'static str {
+    match what {
+        Some(Touched::Page(_)) => "page",
+        Some(Touched::Block(_)) => "block",
+        None => "nothing",
     }
 }

@@ -1,0 +1,230 @@
+-- The chain from the promises of the code to point 3: the machine moves exactly as the world of the theorem does, so each run of the code is
+-- one of the theorem's lists, and what the theorem says of recovery is what the program is handed.
+use mathlib.Core.Path.{_≡_, refl, sym, ap, _∙_, subst}
+use mathlib.Core.Bool.{Bool, true, false}
+use mathlib.Core.Option.{Option, none, some}
+use mathlib.Core.List.{List, []}
+use Prim.Native.Nat.{ℕ}
+use native.Mathlib.Omega.{arith}
+use lib.Dec.{ltb, eqb}
+use lib.ListN.{length}
+use borrow.Author.Tests.{eqb-true, eq-eqb}
+use Rattle.lists.specs.declared.Cell.{Cell}
+use Rattle.lists.specs.Lists.{isSome, valueOr}
+use Rattle.lists.specs.Needs.{checked}
+use Rattle.lists.specs.Cells.{cell, Entry, listed}
+use Rattle.lists.proofs.Laws.{by-cases}
+use Rattle.page.specs.Pages.{View}
+use Rattle.flash.specs.Medium.{views}
+use Rattle.index.specs.Index.{lookup}
+use Rattle.blocks.specs.Blocks.{sizeOk}
+use Rattle.nodes.specs.Nodes.{wordAt}
+use Rattle.state.specs.declared.State.{State}
+use Rattle.state.specs.State.{Held, meaning, fit}
+use Rattle.recovery.specs.Recovery.{Recovery, recover as recoverOf, changesOf}
+use Rattle.recover.specs.declared.Recovered.{Recovered}
+use Rattle.recover.specs.Told as told
+use Rattle.recover.specs.Told.{Recovers}
+use Rattle.readings.specs.Readings.{filed, readInto, readLog, Opening, word, openingOf, Pick, pickOf}
+use Rattle.read.specs.declared.Logged.{Logged}
+use Rattle.read.specs.declared.Opened.{Opened}
+use Rattle.read.specs.Answers.{logRead, Logs, openedOf, Opens, wordOr6}
+use Rattle.calls.specs.Calls.{Call, formatOf}
+use Rattle.step.specs.Step.{Step, mediumAfter}
+use Rattle.begin.specs.declared.Answer.{Answer}
+use Rattle.begin.specs.declared.Answer.the-variants.{Ready, Refused}
+use Rattle.begin.specs.declared.Begun.{Begun}
+use Rattle.begin.specs.Begun as begun
+use Rattle.begin.specs.Begun.{Formats}
+use Rattle.advance.specs.declared.Report.{Report}
+use Rattle.advance.specs.declared.Report.the-variants as report
+use Rattle.advance.specs.declared.Stepped.{Stepped}
+use Rattle.advance.specs.Outcomes as outcomes
+use Rattle.advance.specs.Outcomes.{Done, Outcome, doneOf, outcome, done, performed}
+use Rattle.valve_log.specs.History.{History, start as noHistory, Told, tell}
+use Rattle.valve_log.specs.Reached as reached
+use Rattle.valve_log.specs.Reached.{World, world, withState, stepDue, Event, called, stepped, recovered, cutShort, happen, Words, end, more, Shows, Point3}
+use Rattle.valve_log.specs.Steady.{Steady, Answers}
+use Rattle.valve_log.proofs.Point3.{point3}
+use Rattle.valve_log.proofs.Steady.{steady}
+use Rattle.journal.specs.Run.{Machine, machine, meant, worldOf, goingOn, Moves, Formatting, Run, openingIn, Handed, Point3OfCode}
+
+-- ---- one event
+
+-- a call that begins an operation
+begins : (m : List ℕ) (s : State) (t : Told) (c : Call) (r : Begun) → begun.toldOf r ≡ begun.given s c
+    → world m (some (meaning (r .state))) ≡ called (world m (some (meaning s))) t c .after
+unfolding called
+begins m s t (Call.refused n) r e = go (r .answer) (r .state) e
+  where
+    go : (a : Answer) (x : State) → begun.told a x ≡ begun.Told.turnedBack n s → world m (some (meaning x)) ≡ world m (some (meaning s))
+    go Ready x q = let z : _≡_ {A = ℕ} 0 1 = cc in absurd (omega arith)
+    go (Refused k) x q = let z : x ≡ s = cc in ap (λ (y : State). world m (some (meaning y))) z
+begins m s t (Call.begun h) r e = go (r .answer) (r .state) e
+  where
+    go : (a : Answer) (x : State) → begun.told a x ≡ begun.Told.ready h → world m (some (meaning x)) ≡ world m (some h)
+    go Ready x q = let z : meaning x ≡ h = cc in ap (λ (y : Held). world m (some y)) z
+    go (Refused k) x q = let z : _≡_ {A = ℕ} 0 1 = cc in absurd (omega arith)
+
+-- a step
+steps : (m m′ : List ℕ) (s : State) (t : Step) (r : Stepped) → outcome r m′ ≡ performed m s t
+    → world m′ (some (meaning (r .state))) ≡ stepped (world m (some (meaning s))) t .after
+unfolding stepped performed done mediumAfter
+steps m m′ s (Step.refused n) r e = go (r .report) (r .state) (ap (λ (o : Outcome). o .done) e)
+  where
+    go : (a : Report) (x : State) → doneOf a x ≡ outcomes.turnedBack n s → world m′ (some (meaning x)) ≡ world m (some (meaning s))
+    go (report.Refused k) x q = let z : x ≡ s = cc in let y : m′ ≡ m = ap (λ (o : Outcome). o .medium) e in rw (y, z)
+    go (report.Programmed p f) x q = let z : _≡_ {A = ℕ} 0 1 = cc in absurd (omega arith)
+    go (report.Erased b f) x q = let z : _≡_ {A = ℕ} 0 1 = cc in absurd (omega arith)
+steps m m′ s (Step.program p pg after finished) r e = go (r .report) (r .state) (ap (λ (o : Outcome). o .done) e)
+  where
+    go : (a : Report) (x : State) → doneOf a x ≡ outcomes.page p finished after → world m′ (some (meaning x)) ≡ world (mediumAfter m (Step.program p pg after finished)) (some after)
+    go (report.Refused k) x q = let z : _≡_ {A = ℕ} 0 1 = cc in absurd (omega arith)
+    go (report.Programmed k f) x q = let z : meaning x ≡ after = cc in let y : m′ ≡ mediumAfter m (Step.program p pg after finished) = ap (λ (o : Outcome). o .medium) e in rw (y, z)
+    go (report.Erased b f) x q = let z : _≡_ {A = ℕ} 0 1 = cc in absurd (omega arith)
+steps m m′ s (Step.erase b after finished) r e = go (r .report) (r .state) (ap (λ (o : Outcome). o .done) e)
+  where
+    go : (a : Report) (x : State) → doneOf a x ≡ outcomes.block b finished after → world m′ (some (meaning x)) ≡ world (mediumAfter m (Step.erase b after finished)) (some after)
+    go (report.Refused k) x q = let z : _≡_ {A = ℕ} 0 1 = cc in absurd (omega arith)
+    go (report.Programmed k f) x q = let z : _≡_ {A = ℕ} 0 1 = cc in absurd (omega arith)
+    go (report.Erased k f) x q = let z : meaning x ≡ after = cc in let y : m′ ≡ mediumAfter m (Step.erase b after finished) = ap (λ (o : Outcome). o .medium) e in rw (y, z)
+
+-- a recovery
+recovers : (m : List ℕ) (s : Option State) (R : Recovery) (r : Recovered) → told.told m r ≡ told.tell R
+    → world m (meant (goingOn r s)) ≡ recovered (world m (meant s)) R .after
+unfolding recovered told.told told.tell goingOn meant
+recovers m s (Recovery.refused n) r e =
+    by-cases (eqb (r .number) 0)
+    (λ q. let y = rw q at e in let z : _≡_ {A = ℕ} 0 1 = cc in absurd (omega arith))
+    (λ q. rw q)
+recovers m s (Recovery.recovered log h) r e =
+    by-cases (eqb (r .number) 0)
+    (λ q. let y = rw q at e in let z : meaning (r .state) ≡ h = cc in rw (q, z))
+    (λ q. let y = rw q at e in let z : _≡_ {A = ℕ} 0 1 = cc in absurd (omega arith))
+
+-- a cut inside a step
+cuts : (w : World) (left : List ℕ) (t : Step) → reached.CutOf (w .medium) t left → world left none ≡ cutShort w left t .after
+unfolding cutShort reached.CutOf
+cuts w left (Step.refused n) a = absurd a
+cuts w left (Step.program p pg after finished) a = refl
+cuts w left (Step.erase b after finished) a = refl
+
+-- the machine moves as the world does
+pub moves : (x y : Machine) (e : Event (worldOf x)) → Moves x e y → worldOf y ≡ happen (worldOf x) e .after
+unfolding happen withState meant stepDue
+moves x y e (Moves.append m s ks ws narrow small r p) = begins m s _ _ r p
+moves x y e (Moves.commit m s r p) = begins m s _ _ r p
+moves x y e (Moves.collect m s b r p) = begins m s _ _ r p
+moves x y e (Moves.step m m′ s r p) = steps m m′ s _ r p
+moves x y e (Moves.recover m s r p) = recovers m s _ r (p .is)
+moves x y e (Moves.read z) = refl
+moves x y e (Moves.cut m s) = refl
+moves x y e (Moves.cutInside m left s allowed) = cuts (world m (some (meaning s))) left _ allowed
+
+-- ---- lists of events
+
+formats : (m : List ℕ) (c : Call) (r : Begun) → begun.formattedOf r ≡ begun.asFormatted c → r .answer ≡ Ready → c ≡ Call.begun (meaning (r .state))
+formats m (Call.refused n) r e q = let y = rw q at e in let z : _≡_ {A = ℕ} 0 1 = cc in absurd (omega arith)
+formats m (Call.begun h) r e q = let y = rw q at e in let z : meaning (r .state) ≡ h = cc in rw z
+
+-- what the world comes to, the machine comes to
+there : (P : World → Type 0) (x y : Machine) (e : Event (worldOf x)) → Moves x e y → P (happen (worldOf x) e .after) → P (worldOf y)
+there P x y e v p = subst P (sym (moves x y e v)) p
+
+formatting : (x : Machine) → Formatting x → reached.Formatting (worldOf x)
+unfolding meant
+formatting x (Formatting.begun m r b f q) = reached.begun m (meaning (r .state)) b (formats m (formatOf (length m)) r f q)
+formatting x (Formatting.next z y e f ok v) = there reached.Formatting z y e v (reached.next (worldOf z) e (formatting z f) ok)
+
+pub runs : (x : Machine) (h : History) → Run x h → reached.Reached (worldOf x) h
+runs x h (Run.start z y f last v) = there (λ w. reached.Reached w noHistory) z y Event.step v (reached.start (worldOf z) (formatting z f) last)
+runs x h (Run.next z y k e r v) =
+    there (λ w. reached.Reached w (tell k (happen (worldOf z) e .told))) z y e v (reached.next (worldOf z) k e (runs z k r))
+
+-- ---- what the program is handed
+
+-- a reached medium and the state recovered from it pass 1 and 7
+module _ (m : List ℕ) (s : Held) (a : Answers m s) where
+  size-met : sizeOk (length m) ≡ true
+  unfolding pickOf checked
+  size-met = by-cases (sizeOk (length m)) (λ q. q) (λ q. absurd (a .pick 1 (rw q)))
+
+  fit-met : fit (views m) s ≡ true
+  unfolding pickOf checked
+  fit-met = by-cases (fit (views m) s) (λ q. q) (λ q. absurd (a .pick 7 (rw (size-met, q))))
+
+-- the opening of a valve whose place of the index is given
+unfoldable openAt : List View → ℕ → Option ℕ → Opening
+openAt v valve none = Opening.turnedBack 18
+openAt v valve (some a) = wordOr6 (wordAt v (cell valve a))
+
+opens : (n : ℕ) (v : List View) (s : Held) (valve : ℕ) (o : Option ℕ) (w : Option ℕ) → sizeOk n ≡ true → fit v s ≡ true → lookup valve (s .index) ≡ o → wordAt v (cell valve (valueOr 0 o)) ≡ w
+    → openingOf n v s valve ≡ openAt v valve o
+unfolding openingOf checked openAt wordOr6 isSome valueOr
+opens n v s valve none w z f e q = rw (z, f, e)
+opens n v s valve (some a) none z f e q = rw (z, f, e, q)
+opens n v s valve (some a) (some x) z f e q = rw (z, f, e, q)
+
+-- place by place the index opens as the settings have it
+words-open : (v : List View) (valve : ℕ) {index settings : List Cell} → Words v index settings → openAt v valve (lookup valve index) ≡ openingIn (lookup valve settings)
+unfolding lookup openAt openingIn wordOr6
+words-open v valve end = refl
+words-open v valve (more {k} {a} {w} {index} {settings} q t) =
+    by-cases (ltb valve k) (λ e. rw e)
+    (λ e. by-cases (eqb valve k)
+    (λ f. let z : wordAt v (cell valve a) ≡ some w = rw (eqb-true valve k f) q in rw (e, f, z))
+    (λ f. rw (e, f) (words-open v valve t)))
+
+-- recovery's answer where the definition accepts
+module _ (m : List ℕ) (log : List (List Entry)) (s : Held) (a : recoverOf (length m) (views m) ≡ Recovery.recovered log s) (r : Recovered) (p : Recovers m r) where
+  says : told.told m r ≡ told.state (changesOf log) s
+  unfolding told.tell
+  says = p .is ∙ ap told.tell a
+
+  found-number : r .number ≡ 0
+  unfolding told.told
+  found-number =
+      by-cases (eqb (r .number) 0) (λ q. eqb-true (r .number) 0 q)
+      (λ q. let y = rw q at says in let z : _≡_ {A = ℕ} 0 1 = cc in absurd (omega arith))
+
+  found-state : meaning (r .state) ≡ s
+  unfolding told.told
+  found-state = let y = rw (eq-eqb (r .number) 0 found-number) at says in cc
+
+module _ (w : World) (h : History) (R : reached.Reached w h) (S : Shows (w .medium) h) where
+  log-shown : (ks ws : List ℕ) → readLog (length (w .medium)) (views (w .medium)) ks ws ≡ filed ks ws (changesOf (h .log))
+  unfolding readLog readInto
+  log-shown ks ws = ap (readInto ks ws) (S .accepts) ∙ ap (λ (l : List (List Entry)). filed ks ws (changesOf l)) (S .same-log)
+
+  -- the list with this recovery is one more
+  after : happen w Event.recover .after ≡ world (w .medium) (some (S .state))
+  unfolding happen recovered
+  after = ap (λ (t : Recovery). recovered w t .after) (S .accepts)
+
+  answers : Answers (w .medium) (S .state)
+  unfolding Steady
+  answers =
+      steady (world (w .medium) (some (S .state))) (tell h (happen w Event.recover .told)) (S .state)
+      (subst (λ x. reached.Reached x (tell h (happen w Event.recover .told))) after (reached.next w h Event.recover R)) refl
+
+  valve-shown : (valve : ℕ) → openingOf (length (w .medium)) (views (w .medium)) (S .state) valve ≡ openingIn (lookup valve (h .settings))
+  valve-shown valve =
+      opens (length (w .medium)) (views (w .medium)) (S .state) valve (lookup valve (S .state .index)) _ (size-met (w .medium) (S .state) answers)
+      (fit-met (w .medium) (S .state) answers) refl refl ∙ words-open (views (w .medium)) valve (S .same-settings)
+
+  handed : Handed (w .medium) h
+  handed =
+      record {
+        accepted = found-number (w .medium) (S .log) (S .state) (S .accepts);
+        log = λ ks ws ks′ ws′ a p. p ∙ log-shown ks ws;
+        settings = λ r p. subst (λ l. Words (views (w .medium)) l (h .settings)) (sym (ap (λ (x : Held). x .index) (state-is r p))) (S .same-settings);
+        opening = λ r valve a p q. q ∙ ap (λ (x : Held). openingOf (length (w .medium)) (views (w .medium)) x valve) (state-is r p) ∙ valve-shown valve;
+      }
+    where
+      state-is : (r : Recovered) → Recovers (w .medium) r → meaning (r .state) ≡ S .state
+      state-is r p = found-state (w .medium) (S .log) (S .state) (S .accepts) r p
+
+-- Point 3, of the code.
+pub point3-of-code : Point3OfCode
+unfolding Point3OfCode Point3
+point3-of-code x h r = let R = runs x h r in handed (worldOf x) h R (point3 (worldOf x) h R)

@@ -1,0 +1,122 @@
+// What the programs print: lines of text and numbers, and the log and the settings of a medium.
+ghost use mathlib.Core.Path.{_≡_};
+ghost use Prim.Native.Nat.{_≤_};
+ghost use lib.ListN.{length};
+use read::Logged;
+use read::Opened;
+use state::State;
+
+// Text as it is.
+pub fn text(s: &[u8]) {
+    io::write_all(1, s);
+}
+
+// A number, decimal.
+pub fn number(n: u64) {
+    io::print_decimal(1, n);
+}
+
+// A word of the output, then a number, at the end of a line.
+pub fn line(name: &[u8], n: u64) {
+    text(name);
+    number(n);
+    text(b"\n");
+}
+
+// A refusal.
+pub fn refused(number: u8) {
+    line(b"refused ", number as u64);
+}
+
+// A call, and its answer: the number that it refused with, or 0.
+pub fn answer(call: &[u8], number: u8) {
+    text(call);
+    if number == 0 {
+        text(b"passed\n");
+        return;
+    }
+    refused(number);
+}
+
+// The places for the longest log: 24 entries on each of 256 pages.
+fn no_keys() -> [u16; 6144]
+    ensures { λ r. ⌜ length r ≡ 6144 ⌝ }
+{
+    [0; 6144]
+}
+
+fn no_words() -> [u64; 6144]
+    ensures { λ r. ⌜ length r ≡ 6144 ⌝ }
+{
+    [0; 6144]
+}
+
+// One change: a valve and its word, or `-` where it was removed.
+fn change(key: u16, word: u64) {
+    if 32768 <= key {
+        number((key - 32768) as u64);
+        text(b" -\n");
+        return;
+    }
+    number(key as u64);
+    line(b" ", word);
+}
+
+// The first n changes.
+fn changes(keys: &[u16], words: &[u64], n: usize) {
+    line(b"log ", n as u64);
+    let mut i: usize = 0;
+    while i < n {
+        if i < keys.len() {
+            if i < words.len() {
+                change(keys[i], words[i]);
+            }
+        }
+        i += 1;
+    }
+}
+
+// A valve that is set, with its word.
+fn setting(m: &[u8], s: State, valve: u16) {
+    let word = read::opening(m, s, valve);
+    match word {
+        Opened::Word(w) => {
+            number(valve as u64);
+            line(b" ", w);
+        }
+        Opened::Refused(n) => refused(n),
+    }
+}
+
+// Each valve that is set.
+fn settings(m: &[u8], s: State)
+    requires { ⌜ s .index .count ≤ 192 ⌝ }
+{
+    let index = s.index;
+    let n = index.count;
+    line(b"set ", n as u64);
+    let mut i: usize = 0;
+    while i < n {
+        let x = index.cells[i];
+        setting(m, s, x.key);
+        i += 1;
+    }
+}
+
+// The log and the settings of a medium, or `refused` and the number.
+pub fn medium(m: &[u8]) {
+    let r = recover::recover(m);
+    let number = r.number;
+    if number != 0 {
+        refused(number);
+        return;
+    }
+    let mut keys = no_keys();
+    let mut words = no_words();
+    let logged = read::log(m, &mut keys, &mut words);
+    match logged {
+        Logged::Changes(n) => changes(&keys, &words, n),
+        Logged::Refused(n) => refused(n),
+    }
+    settings(m, r.state);
+}

@@ -1,0 +1,76 @@
+// Formats a medium of 4 blocks, appends the groups {5 -> 1000, 7 -> 20} and {remove 5}; then, as on the morning after a power cut, recovers,
+// reads the log and the settings, commits, and collects the block that the picker names. Prints what each step touched.
+//
+//   rt staticlib journal_c
+//   rustc --edition 2021 -O -L target/staticlib examples/journal.rs -o target/journal_rs
+#[allow(dead_code)]
+#[path = "../include/valve_journal.rs"]
+mod valve_journal;
+
+use valve_journal::*;
+
+// Ends the program where a call refuses.
+fn expect(call: &str, number: u8) {
+    if number != 0 {
+        println!("{call}: refused {number}");
+        std::process::exit(1);
+    }
+}
+
+// Steps until the operation begun is finished. A driver carries each step to the chip before the next.
+fn finish(m: &mut [u8], call: &str, begun: VjBegun) -> VjState {
+    expect(call, begun.number);
+    let mut state = begun.state;
+    loop {
+        let step = unsafe { vj_step(m.as_mut_ptr(), m.len(), state) };
+        expect(call, step.number);
+        println!("{call}: {} {}", if step.touched == PAGE { "page" } else { "block" }, step.at);
+        state = step.state;
+        if step.finished == 1 {
+            return state;
+        }
+    }
+}
+
+// An append of these keys and words, finished.
+fn append(m: &mut [u8], state: VjState, keys: &[u16], words: &[u64]) -> VjState {
+    let begun = unsafe { vj_append(m.as_ptr(), m.len(), state, keys.as_ptr(), keys.len(), words.as_ptr(), words.len()) };
+    finish(m, "append", begun)
+}
+
+// The state recovered, after the log and the settings are printed.
+fn morning(m: &[u8]) -> VjState {
+    let found = unsafe { vj_recover(m.as_ptr(), m.len()) };
+    expect("recover", found.number);
+    let (mut keys, mut words) = (vec![0u16; 6144], vec![0u64; 6144]);
+    let log = unsafe { vj_log(m.as_ptr(), m.len(), keys.as_mut_ptr(), keys.len(), words.as_mut_ptr(), words.len()) };
+    expect("log", log.number);
+    println!("log {}", log.count);
+    for (key, word) in keys.iter().zip(&words).take(log.count) {
+        if *key < 32768 { println!("{key} {word}") } else { println!("{} -", key - 32768) }
+    }
+    println!("set {}", found.state.index.count);
+    for place in &found.state.index.cells[..found.state.index.count] {
+        let opening = unsafe { vj_opening(m.as_ptr(), m.len(), found.state, place.key) };
+        expect("opening", opening.number);
+        println!("{} {}", place.key, opening.word);
+    }
+    found.state
+}
+
+fn main() {
+    let m = &mut [0u8; 4 * 4096][..];
+    let begun = unsafe { vj_format(m.as_ptr(), m.len()) };
+    let mut state = finish(m, "format", begun);
+    state = append(m, state, &[5, 7], &[1000, 20]);
+    append(m, state, &[32768 + 5], &[0]);
+    let begun = unsafe { vj_commit(m.as_ptr(), m.len(), morning(m)) };
+    state = finish(m, "commit", begun);
+    let pick = unsafe { vj_pick(m.as_ptr(), m.len(), state) };
+    expect("pick", pick.number);
+    if pick.found == 1 {
+        let begun = unsafe { vj_collect(m.as_ptr(), m.len(), state, pick.block) };
+        finish(m, "collect", begun);
+    }
+    morning(m);
+}

@@ -1,0 +1,191 @@
+//! The time of the proved library over that of the second implementation, on
+//! media of 16 blocks. Both make the same calls in turn in one process, each
+//! call with all its checks; the least of many times counts.
+//!
+//!     cargo bench --offline --manifest-path tests/Cargo.toml
+
+use journal_tests::proved::{self, VjState};
+use journal_tests::reader::{self, Refused, BLOCK_BYTES};
+use journal_tests::writer::{self, State, Step};
+use std::hint::black_box;
+use std::time::{Duration, Instant};
+
+// ---------------------------------------------------------------------------
+// The calls of either implementation
+
+trait Calls {
+    type State: Clone;
+    fn of(state: &State) -> Self::State;
+    fn recover(medium: &[u8]) -> Result<Self::State, Refused>;
+    fn log_into(medium: &[u8], keys: &mut [u16], words: &mut [u64]) -> Result<usize, Refused>;
+    fn append(m: &[u8], state: &mut Self::State, k: &[u16], w: &[u64]) -> Result<(), Refused>;
+    fn commit(medium: &[u8], state: &mut Self::State) -> Result<(), Refused>;
+    fn collect(medium: &[u8], state: &mut Self::State, block: usize) -> Result<(), Refused>;
+    fn step(medium: &mut [u8], state: &mut Self::State) -> Result<Step, Refused>;
+
+    /// Steps until the pending operation is finished.
+    fn finish(medium: &mut [u8], state: &mut Self::State) {
+        while !Self::step(medium, state).expect("a step").finished {}
+    }
+}
+
+/// Takes the calls that read and those that write from these modules.
+macro_rules! calls {
+    ($name:ident, $state:ty, $of:expr, $reader:ident, $writer:ident) => {
+        struct $name;
+
+        impl Calls for $name {
+            type State = $state;
+            fn of(state: &State) -> $state {
+                $of(state)
+            }
+            fn recover(medium: &[u8]) -> Result<$state, Refused> {
+                $reader::recover(medium)
+            }
+            fn log_into(m: &[u8], keys: &mut [u16], words: &mut [u64]) -> Result<usize, Refused> {
+                $reader::log_into(m, keys, words)
+            }
+            fn append(m: &[u8], state: &mut $state, k: &[u16], w: &[u64]) -> Result<(), Refused> {
+                $writer::append(m, state, k, w)
+            }
+            fn commit(medium: &[u8], state: &mut $state) -> Result<(), Refused> {
+                $writer::commit(medium, state)
+            }
+            fn collect(medium: &[u8], state: &mut $state, block: usize) -> Result<(), Refused> {
+                $writer::collect(medium, state, block)
+            }
+            fn step(medium: &mut [u8], state: &mut $state) -> Result<Step, Refused> {
+                $writer::step(medium, state)
+            }
+        }
+    };
+}
+
+calls!(Proved, VjState, VjState::from, proved, proved);
+calls!(Second, State, State::clone, reader, writer);
+
+// ---------------------------------------------------------------------------
+// What is timed
+
+/// Recovery alone.
+fn recovery<C: Calls>(medium: &mut [u8], _: C::State) {
+    assert!(black_box(C::recover(black_box(medium))).is_ok());
+}
+
+/// A morning: recovery, the log into two lists, a commit to its end.
+fn morning<C: Calls>(medium: &mut [u8], _: C::State) {
+    let mut state = C::recover(medium).expect("recovery");
+    let (mut keys, mut words) = ([0; 6144], [0; 6144]);
+    black_box(C::log_into(medium, &mut keys, &mut words).expect("the log"));
+    C::commit(medium, &mut state).expect("commit");
+    C::finish(medium, &mut state);
+}
+
+/// Groups of so many entries, until one is refused.
+fn appends<C: Calls, const ENTRIES: usize>(medium: &mut [u8], mut state: C::State) {
+    for group in 0.. {
+        let (keys, words) = some_group::<ENTRIES>(group);
+        if let Err(refused) = C::append(medium, &mut state, &keys, &words) {
+            assert_eq!((refused, group), (Refused(13), 239));
+            return;
+        }
+        C::finish(medium, &mut state);
+    }
+}
+
+/// A collection of block 0 to its end.
+fn collection<C: Calls>(medium: &mut [u8], mut state: C::State) {
+    C::collect(medium, &mut state, 0).expect("collect");
+    C::finish(medium, &mut state);
+}
+
+/// The keys and words of the n-th group.
+fn some_group<const ENTRIES: usize>(group: usize) -> ([u16; ENTRIES], [u64; ENTRIES]) {
+    let key = |entry: usize| ((7 * group + 5 * entry) % 180) as u16;
+    let word = |entry: usize| (1000 * group + entry) as u64;
+    (std::array::from_fn(key), std::array::from_fn(word))
+}
+
+// ---------------------------------------------------------------------------
+// Media, written by the second implementation
+
+fn formatted() -> (Vec<u8>, State) {
+    let mut medium = vec![0xFF; 16 * BLOCK_BYTES];
+    let mut state = writer::format(&medium).expect("format");
+    Second::finish(&mut medium, &mut state);
+    (medium, state)
+}
+
+/// So many groups of 24 entries after formatting, or as many as pass.
+fn grown(groups: usize) -> (Vec<u8>, State) {
+    let (mut medium, mut state) = formatted();
+    for group in 0..groups {
+        let (keys, words) = some_group::<24>(group);
+        if writer::append(&medium, &mut state, &keys, &words).is_err() {
+            break;
+        }
+        Second::finish(&mut medium, &mut state);
+    }
+    (medium, state)
+}
+
+/// Block 0 written to its end and a commit behind it: block 0 is collectible,
+/// and all valves live in it.
+fn collectible() -> (Vec<u8>, State) {
+    let (mut medium, mut state) = grown(15);
+    writer::commit(&medium, &mut state).expect("commit");
+    Second::finish(&mut medium, &mut state);
+    assert_eq!(reader::pick(&medium, &state), Ok(Some(0)));
+    assert_eq!(reader::live_count(&state, 0), state.index.len());
+    assert!(state.index.len() > 96);
+    (medium, state)
+}
+
+// ---------------------------------------------------------------------------
+// Times
+
+/// The time of one run on a fresh medium and state.
+fn time<C: Calls>(
+    (medium, state): &(Vec<u8>, State),
+    run: impl Fn(&mut [u8], C::State),
+) -> Duration {
+    let (mut medium, state) = (medium.clone(), C::of(state));
+    let start = Instant::now();
+    run(&mut medium, state);
+    start.elapsed()
+}
+
+/// Runs both in turn for some seconds, at least 40 times, and prints the least
+/// time of each and their ratio.
+fn compare(
+    name: &str,
+    journal: (Vec<u8>, State),
+    proved: impl Fn(&mut [u8], VjState),
+    second: impl Fn(&mut [u8], State),
+) {
+    let (mut least_proved, mut least_second) = (Duration::MAX, Duration::MAX);
+    let (start, mut runs) = (Instant::now(), 0);
+    while runs < 40 || start.elapsed() < Duration::from_secs(2) {
+        least_proved = least_proved.min(time::<Proved>(&journal, &proved));
+        least_second = least_second.min(time::<Second>(&journal, &second));
+        runs += 1;
+    }
+    let ratio = least_proved.as_secs_f64() / least_second.as_secs_f64();
+    let (proved, second) = (micros(least_proved), micros(least_second));
+    println!("{name}: proved {proved:.1} µs, second {second:.1} µs, ratio {ratio:.2}");
+}
+
+fn micros(time: Duration) -> f64 {
+    time.as_secs_f64() * 1e6
+}
+
+fn main() {
+    compare("recovery, full", grown(1000), recovery::<Proved>, recovery::<Second>);
+    compare("recovery, mostly clean", grown(8), recovery::<Proved>, recovery::<Second>);
+    compare("a morning", grown(100), morning::<Proved>, morning::<Second>);
+    let (proved, second) = (appends::<Proved, 24>, appends::<Second, 24>);
+    compare("groups of 24 until 13", formatted(), proved, second);
+    let (proved, second) = (appends::<Proved, 2>, appends::<Second, 2>);
+    compare("groups of 2 until 13", formatted(), proved, second);
+    compare("a collection", collectible(), collection::<Proved>, collection::<Second>);
+}

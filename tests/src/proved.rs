@@ -1,0 +1,207 @@
+//! The proved library behind safe calls, in the second implementation's
+//! terms.
+//!
+//! A call that takes a state takes it as a [`VjState`], each field as the
+//! library has it. A call that hands one back puts it in the place of the one
+//! given, on a refusal too, so that a caller can see whether it is the same.
+
+pub use crate::valve_journal::*;
+
+use crate::reader::{Entry, Pending, Place, Refused, State, MAX_BLOCKS, MAX_VALVES};
+use crate::writer::{Step, Touched};
+
+// ---------------------------------------------------------------------------
+// States: the library's and the second implementation's
+
+impl VjCells {
+    /// A list as the library has it; what is past 192 shows in the count alone.
+    fn of(list: impl ExactSizeIterator<Item = (u16, u64)>) -> VjCells {
+        let mut cells = VjCells { count: list.len(), cells: [VjCell { key: 0, val: 0 }; 192] };
+        for (cell, (key, val)) in cells.cells.iter_mut().zip(list) {
+            *cell = VjCell { key, val };
+        }
+        cells
+    }
+
+    /// The cells in the list; none where the count is past 192.
+    fn used(&self) -> Option<&[VjCell]> {
+        self.cells.get(..self.count)
+    }
+}
+
+/// A state of the second implementation, as the library has it. Places that
+/// mean nothing hold 0.
+impl From<&State> for VjState {
+    fn from(state: &State) -> VjState {
+        let (mut group, mut pages) = (VjCells::of([].into_iter()), [0; 4]);
+        let (operation, progress) = match &state.pending {
+            None => (IDLE, 0),
+            Some(Pending::Append { entries, written }) => {
+                group = VjCells::of(entries.iter().map(|entry| (entry.key, entry.word)));
+                for (page, &number) in pages.iter_mut().zip(written) {
+                    *page = number as u16;
+                }
+                (APPEND, written.len() as u64)
+            }
+            Some(Pending::Commit { done }) => (COMMIT, *done),
+            Some(Pending::Collect { block }) => (COLLECT, *block as u64),
+            Some(Pending::Format { erased }) => (FORMAT, *erased as u64),
+        };
+        let head = VjHead {
+            blocks: state.blocks,
+            block: state.head,
+            next: state.next_page,
+            serial: state.next_serial,
+            base: state.first_base_serial,
+        };
+        let index = VjCells::of(state.index.iter().map(|place| (place.valve, place.address)));
+        VjState { head, index, group, pages, operation, progress }
+    }
+}
+
+impl VjState {
+    /// The state in the second implementation's terms. There is none where the
+    /// operation names none, a list that means something has a count past 192,
+    /// or an append has written more than four pages; such a state is unfit.
+    pub fn meaning(&self) -> Option<State> {
+        let place = |cell: &VjCell| Place { valve: cell.key, address: cell.val };
+        Some(State {
+            blocks: self.head.blocks,
+            head: self.head.block,
+            next_page: self.head.next,
+            next_serial: self.head.serial,
+            first_base_serial: self.head.base,
+            index: self.index.used()?.iter().map(place).collect(),
+            pending: self.pending()?,
+        })
+    }
+
+    /// What is pending, if anything; none where that has no meaning.
+    fn pending(&self) -> Option<Option<Pending>> {
+        let progress = usize::try_from(self.progress).ok()?;
+        match self.operation {
+            IDLE => Some(None),
+            APPEND => {
+                let entry = |cell: &VjCell| Entry { key: cell.key, word: cell.val };
+                let entries = self.group.used()?.iter().map(entry).collect();
+                let written = self.pages.get(..progress)?.iter().map(|&page| page.into());
+                Some(Some(Pending::Append { entries, written: written.collect() }))
+            }
+            COMMIT => Some(Some(Pending::Commit { done: self.progress })),
+            COLLECT => Some(Some(Pending::Collect { block: progress })),
+            FORMAT => Some(Some(Pending::Format { erased: progress })),
+            _ => None,
+        }
+    }
+}
+
+// ---------------------------------------------------------------------------
+// The calls. In each, a pointer and a length are those of one slice, and what
+// the library writes to is lent to it alone.
+
+/// The answer of a number and a value.
+fn answer<T>(number: u8, value: T) -> Result<T, Refused> {
+    if number == 0 {
+        Ok(value)
+    } else {
+        Err(Refused(number))
+    }
+}
+
+/// Recovery.
+pub fn recover(medium: &[u8]) -> Result<VjState, Refused> {
+    let r = unsafe { vj_recover(medium.as_ptr(), medium.len()) };
+    answer(r.number, r.state)
+}
+
+/// The log into two lent lists; its length is handed back.
+pub fn log_into(medium: &[u8], keys: &mut [u16], words: &mut [u64]) -> Result<usize, Refused> {
+    let (medium, length) = (medium.as_ptr(), medium.len());
+    let (key, word) = (keys.as_mut_ptr(), words.as_mut_ptr());
+    let r = unsafe { vj_log(medium, length, key, keys.len(), word, words.len()) };
+    answer(r.number, r.count)
+}
+
+/// Page `p` as a part of the medium; empty where the medium lacks it.
+pub fn page(medium: &[u8], p: usize) -> &[u8] {
+    let part = unsafe { vj_page(medium.as_ptr(), medium.len(), p) };
+    &medium[part.offset..part.offset + part.length]
+}
+
+/// Opening of a valve: its word.
+pub fn open(medium: &[u8], state: &VjState, valve: u16) -> Result<u64, Refused> {
+    let r = unsafe { vj_opening(medium.as_ptr(), medium.len(), *state, valve) };
+    answer(r.number, r.word)
+}
+
+/// The picker.
+pub fn pick(medium: &[u8], state: &VjState) -> Result<Option<usize>, Refused> {
+    let r = unsafe { vj_pick(medium.as_ptr(), medium.len(), *state) };
+    answer(r.number, (r.found == 1).then_some(r.block as usize))
+}
+
+/// The survey.
+pub fn survey(medium: &[u8], state: &VjState) -> Result<[[u32; 3]; MAX_BLOCKS], Refused> {
+    let r = unsafe { vj_survey(medium.as_ptr(), medium.len(), *state) };
+    let count = |block: usize, column: usize| u32::from(r.counts[3 * block + column]);
+    answer(r.number, std::array::from_fn(|block| std::array::from_fn(|c| count(block, c))))
+}
+
+/// Available pages.
+pub fn count_available(medium: &[u8], state: &VjState) -> Result<usize, Refused> {
+    let r = unsafe { vj_available(medium.as_ptr(), medium.len(), *state) };
+    answer(r.number, r.pages as usize)
+}
+
+/// Begins formatting.
+pub fn format(medium: &[u8]) -> Result<VjState, Refused> {
+    let r = unsafe { vj_format(medium.as_ptr(), medium.len()) };
+    answer(r.number, r.state)
+}
+
+/// Begins an append.
+pub fn append(
+    medium: &[u8],
+    state: &mut VjState,
+    keys: &[u16],
+    words: &[u64],
+) -> Result<(), Refused> {
+    let (medium, length) = (medium.as_ptr(), medium.len());
+    let (key, word) = (keys.as_ptr(), words.as_ptr());
+    let r = unsafe { vj_append(medium, length, *state, key, keys.len(), word, words.len()) };
+    begun(r, state)
+}
+
+/// Begins a commit.
+pub fn commit(medium: &[u8], state: &mut VjState) -> Result<(), Refused> {
+    let r = unsafe { vj_commit(medium.as_ptr(), medium.len(), *state) };
+    begun(r, state)
+}
+
+/// Begins a collection of a named block.
+pub fn collect(medium: &[u8], state: &mut VjState, block: usize) -> Result<(), Refused> {
+    let r = unsafe { vj_collect(medium.as_ptr(), medium.len(), *state, block as u64) };
+    begun(r, state)
+}
+
+/// The answer of a call that begins an operation.
+fn begun(r: VjBegun, state: &mut VjState) -> Result<(), Refused> {
+    *state = r.state;
+    answer(r.number, ())
+}
+
+/// One device step of the pending operation.
+pub fn step(medium: &mut [u8], state: &mut VjState) -> Result<Step, Refused> {
+    let r = unsafe { vj_step(medium.as_mut_ptr(), medium.len(), *state) };
+    *state = r.state;
+    answer(r.number, ())?;
+    let at = r.at as usize;
+    let touched = match r.touched {
+        1 => Touched::Page(at),
+        2 => Touched::Block(at),
+        other => panic!("a step touches a page or a block, not {other}"),
+    };
+    Ok(Step { touched, finished: r.finished == 1 })
+}
+
+const _: () = assert!(MAX_VALVES == 192 && size_of::<VjState>() == 6224);

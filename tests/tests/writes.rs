@@ -1,0 +1,871 @@
+//! The calls that write: the proved library against the second implementation
+//! and the plain history.
+//!
+//! First the document's small examples; then lists of calls and cuts from
+//! formatting on, where after every event the answer, every byte of the medium
+//! and the state are compared; then calls on media, states and lists that may
+//! be anything.
+//!
+//! `JOURNAL_EVENTS=n` asks for lists of n events in all. A failure prints a
+//! seed; `JOURNAL_SEED=s` begins with it.
+
+mod common;
+
+use common::{blank, happening, refused, valves};
+use journal_tests::proved::{self, VjCell, VjState};
+use journal_tests::random::{self, cut_step, Action, Life, Outcome, Random, Reading};
+use journal_tests::reader::{self, Entry, Refused, BLOCK_BYTES, PAGE_BYTES, REMOVAL};
+use journal_tests::writer::{self, Pending, State, Step, Touched};
+use std::collections::BTreeMap;
+use std::time::Instant;
+
+// ---------------------------------------------------------------------------
+// The small examples of the document
+
+/// A journal that the proved library alone has written.
+#[derive(Clone)]
+struct Journal {
+    medium: Vec<u8>,
+    state: VjState,
+}
+
+impl Journal {
+    fn formatted(blocks: usize) -> Journal {
+        let medium = blank(blocks);
+        let state = proved::format(&medium).expect("format");
+        let mut journal = Journal { medium, state };
+        journal.finish();
+        journal
+    }
+
+    fn step(&mut self) -> Result<Step, Refused> {
+        proved::step(&mut self.medium, &mut self.state)
+    }
+
+    /// Steps until the pending operation is finished; what each touched.
+    fn finish(&mut self) -> Vec<Touched> {
+        let mut touched = Vec::new();
+        while touched.len() < 40 {
+            let step = self.step().expect("a step");
+            touched.push(step.touched);
+            if step.finished {
+                return touched;
+            }
+        }
+        panic!("no operation takes 40 steps");
+    }
+
+    fn begin_append(&mut self, entries: &[(u16, u64)]) -> Result<(), Refused> {
+        let (keys, words): (Vec<u16>, Vec<u64>) = entries.iter().copied().unzip();
+        proved::append(&self.medium, &mut self.state, &keys, &words)
+    }
+
+    fn append(&mut self, entries: &[(u16, u64)]) -> Vec<Touched> {
+        self.begin_append(entries).expect("append");
+        self.finish()
+    }
+
+    fn begin_commit(&mut self) -> Result<(), Refused> {
+        proved::commit(&self.medium, &mut self.state)
+    }
+
+    fn collect(&mut self, block: usize) -> Result<(), Refused> {
+        proved::collect(&self.medium, &mut self.state, block)
+    }
+
+    fn available(&self) -> Result<usize, Refused> {
+        proved::count_available(&self.medium, &self.state)
+    }
+
+    /// The log, keys and words as stored.
+    fn log(&self) -> Vec<(u16, u64)> {
+        let (mut keys, mut words) = (vec![0; 6144], vec![0; 6144]);
+        let changes = proved::log_into(&self.medium, &mut keys, &mut words).expect("the log");
+        keys.into_iter().zip(words).take(changes).collect()
+    }
+}
+
+#[test]
+fn formatting_leaves_63_pages_and_47_groups_pass() {
+    let mut journal = Journal::formatted(4);
+    let base = [0x5C, 0, 2, 3, 0, 0, 0xFF, 0xFF, 1];
+    assert_eq!(journal.medium[..9], base);
+    assert_eq!(journal.available(), Ok(63));
+    for word in 0..47 {
+        assert_eq!(journal.append(&[(5, word)]), [Touched::Page(word as usize + 1)]);
+    }
+    assert_eq!(journal.available(), Ok(16));
+    assert_eq!(journal.begin_append(&[(5, 47)]), refused(13));
+    assert_eq!(journal.log().len(), 47);
+}
+
+#[test]
+fn small_examples_of_refusals() {
+    let formatted = Journal::formatted(4);
+    let mut journal = formatted.clone();
+    assert_eq!(proved::format(&journal.medium[..12288]).map(|_| ()), refused(1));
+    assert_eq!(journal.collect(0), refused(15));
+    assert_eq!(journal.begin_append(&valves(0, 97)), refused(10));
+    assert_eq!(journal.begin_append(&[]), refused(10));
+    assert_eq!(journal.begin_append(&[(32773, 1)]), refused(11));
+    assert_eq!(journal.step(), refused(9));
+    journal.state = proved::recover(&journal.medium).expect("recovery");
+    assert_eq!(journal.step(), refused(9));
+
+    let mut journal = formatted.clone();
+    journal.begin_append(&[(5, 1)]).expect("append");
+    assert_eq!(journal.begin_commit(), refused(8));
+    journal.medium[256] = 0;
+    assert_eq!(journal.step(), refused(16));
+
+    let mut journal = formatted.clone();
+    journal.append(&valves(0, 96));
+    journal.append(&valves(96, 96));
+    assert_eq!(journal.begin_append(&[(192, 1)]), refused(12));
+
+    let mut journal = formatted.clone();
+    journal.state.head.serial = u64::MAX;
+    assert_eq!(journal.begin_append(&[(5, 1)]), refused(14));
+    assert_eq!(journal.begin_commit(), refused(14));
+
+    let mut journal = formatted.clone();
+    journal.medium.resize(5 * BLOCK_BYTES, 0xFF);
+    assert_eq!(journal.begin_append(&[(5, 1)]), refused(7));
+    assert_eq!(journal.begin_commit(), refused(7));
+    assert_eq!(journal.collect(0), refused(7));
+    assert_eq!(journal.step(), refused(7));
+    assert_eq!(journal.available(), refused(7));
+}
+
+#[test]
+fn pages_of_appends_and_commits() {
+    for (entries, pages) in [(24, 1), (25, 2), (96, 4)] {
+        let touched = Journal::formatted(4).append(&valves(0, entries));
+        assert_eq!(touched, (1..=pages).map(Touched::Page).collect::<Vec<_>>());
+    }
+    for (count, pages) in [(0, 1), (24, 1), (25, 2), (192, 8)] {
+        let mut journal = Journal::formatted(8);
+        for part in valves(0, count).chunks(96) {
+            journal.append(part);
+        }
+        journal.begin_commit().expect("commit");
+        assert_eq!(journal.finish().len(), pages);
+        assert_eq!(journal.log(), []);
+    }
+}
+
+#[test]
+fn thirty_entries_cut_after_their_first_page() {
+    let mut journal = Journal::formatted(4);
+    journal.begin_append(&valves(0, 30)).expect("append");
+    assert_eq!(journal.step(), Ok(Step { touched: Touched::Page(1), finished: false }));
+    assert_eq!(journal.log(), []);
+    journal.state = proved::recover(&journal.medium).expect("recovery");
+    assert_eq!(journal.append(&[(5, 1)]), [Touched::Page(16)]);
+    assert_eq!(journal.medium[16 * 256 + 8], 3);
+    assert_eq!(journal.log(), [(5, 1)]);
+}
+
+#[test]
+fn formatting_erases_upward_and_drops_what_is_pending() {
+    let mut journal = Journal::formatted(4);
+    journal.begin_append(&[(5, 1)]).expect("append");
+    journal.medium.fill(0);
+    journal.state = proved::format(&journal.medium).expect("format");
+    let mut expected: Vec<Touched> = (0..4).map(Touched::Block).collect();
+    expected.push(Touched::Page(0));
+    assert_eq!(journal.finish(), expected);
+    assert!(journal.medium == Journal::formatted(4).medium);
+    assert_eq!(journal.log(), []);
+}
+
+// ---------------------------------------------------------------------------
+// Lists of calls and cuts
+
+/// Events of the lists together, where no variable asks for another number.
+const EVENTS: u64 = 100_000;
+/// Events of one list.
+const LIFE: u64 = 1000;
+
+/// A number that the environment gives.
+fn variable(name: &str) -> Option<u64> {
+    std::env::var(name).ok().map(|text| text.parse().expect(name))
+}
+
+/// Prints a seed where what was made of it fails.
+struct Seed(u64);
+
+impl Drop for Seed {
+    fn drop(&mut self) {
+        if std::thread::panicking() {
+            eprintln!("JOURNAL_SEED={}", self.0);
+        }
+    }
+}
+
+/// How often each thing happened.
+type Counts = BTreeMap<String, usize>;
+
+fn count(counts: &mut Counts, name: impl Into<String>) {
+    *counts.entry(name.into()).or_insert(0) += 1;
+}
+
+/// One life led twice: by the second implementation, with the plain history,
+/// and by the proved library on a medium and a state of its own.
+struct Twins {
+    life: Life,
+    medium: Vec<u8>,
+    state: Option<VjState>,
+}
+
+impl Twins {
+    fn new(random: &mut Random) -> Twins {
+        let life = Life::new(random);
+        Twins { medium: life.medium.clone(), life, state: None }
+    }
+
+    /// Both get so few serials.
+    fn grow_old(&mut self, serials_left: u64) {
+        self.life.grow_old(serials_left);
+        self.medium.clone_from(&self.life.medium);
+        self.state = self.life.state.as_ref().map(VjState::from);
+    }
+
+    /// Both carry out the action: they answer the same and leave the same.
+    fn act(&mut self, action: &Action) -> Outcome {
+        let proved = self.act_proved(action);
+        let second = self.life.act(action);
+        assert_eq!(proved, second, "{}", happening(action, second));
+        assert!(self.medium == self.life.medium, "every byte of the medium");
+        let state = self.state.map(|state| state.meaning().expect("a state that means something"));
+        assert_eq!(state, self.life.state);
+        second
+    }
+
+    /// What the proved library makes of the action.
+    fn act_proved(&mut self, action: &Action) -> Outcome {
+        match action {
+            Action::Format => self.handed_back(proved::format(&self.medium)),
+            Action::Recover => self.handed_back(proved::recover(&self.medium)),
+            Action::Cut => self.cut_between(),
+            Action::CutInside { mask } => self.cut_inside(mask),
+            Action::Step => self.step(),
+            Action::Append { keys, words } => {
+                self.call(|medium, state| proved::append(medium, state, keys, words))
+            }
+            Action::Commit => self.call(proved::commit),
+            Action::Collect { block } => {
+                self.call(|medium, state| proved::collect(medium, state, *block))
+            }
+            Action::Read(reading) => self.read(*reading),
+        }
+    }
+
+    /// A call that takes no state; a refusal hands none back.
+    fn handed_back(&mut self, result: Result<VjState, Refused>) -> Outcome {
+        match result {
+            Ok(state) => {
+                self.state = Some(state);
+                Outcome::Accepted
+            }
+            Err(Refused(number)) => Outcome::Refused(number),
+        }
+    }
+
+    /// A call that takes a state and does no device step.
+    fn call(&mut self, call: impl FnOnce(&[u8], &mut VjState) -> Result<(), Refused>) -> Outcome {
+        let state = self.state.as_mut().expect("a state");
+        let given = *state;
+        match call(&self.medium, state) {
+            Ok(()) => Outcome::Accepted,
+            Err(Refused(number)) => {
+                assert!(*state == given, "a refusal hands back the state given");
+                Outcome::Refused(number)
+            }
+        }
+    }
+
+    fn step(&mut self) -> Outcome {
+        let state = self.state.as_mut().expect("a state");
+        let given = *state;
+        match proved::step(&mut self.medium, state) {
+            Ok(step) => Outcome::Stepped(step),
+            Err(Refused(number)) => {
+                assert!(*state == given, "a refusal hands back the state given");
+                Outcome::Refused(number)
+            }
+        }
+    }
+
+    fn cut_between(&mut self) -> Outcome {
+        self.state = None;
+        Outcome::Cut { struck: None, complete: false }
+    }
+
+    /// The step due is made on a copy, to see what the cut strikes.
+    fn cut_inside(&mut self, mask: &[u8]) -> Outcome {
+        let mut state = self.state.take().expect("a state");
+        let mut after = self.medium.clone();
+        let Ok(step) = proved::step(&mut after, &mut state) else { return self.cut_between() };
+        let complete = cut_step(&mut self.medium, &after, &step.touched, mask);
+        Outcome::Cut { struck: Some(step.touched), complete }
+    }
+
+    /// A reading: both hand back the same.
+    fn read(&self, reading: Reading) -> Outcome {
+        let medium = &self.medium;
+        let proved = self.state.as_ref().expect("a state");
+        let second = self.life.state.as_ref().expect("a state");
+        let answer = match reading {
+            Reading::Open { valve } => {
+                same(proved::open(medium, proved, valve), reader::open(medium, second, valve))
+            }
+            Reading::Pick => same(proved::pick(medium, proved), reader::pick(medium, second)),
+            Reading::Survey => same(proved::survey(medium, proved), reader::survey(medium, second)),
+            Reading::Available => same(
+                proved::count_available(medium, proved),
+                reader::count_available(medium, second),
+            ),
+            Reading::Log { keys, words } => {
+                let (mut lists, mut others) =
+                    ((vec![9; keys], vec![9; words]), (vec![9; keys], vec![9; words]));
+                let answer = same(
+                    proved::log_into(medium, &mut lists.0, &mut lists.1),
+                    reader::log_into(medium, &mut others.0, &mut others.1),
+                );
+                assert_eq!(lists, others);
+                answer
+            }
+        };
+        answer.map_or_else(|Refused(number)| Outcome::Refused(number), |()| Outcome::Accepted)
+    }
+
+    /// Recovery now gives the log and the settings of the plain history, in
+    /// both; where formatting is not finished, both say the same.
+    fn check_recovery(&self, random: &mut Random) {
+        let recovered = proved::recover(&self.medium);
+        let replay = reader::replay(&self.medium);
+        let Some(history) = &self.life.history else {
+            let meaning = recovered.map(|state| state.meaning().expect("a meaning"));
+            return assert_eq!(meaning, replay.map(|replay| replay.state));
+        };
+        let recovered = recovered.expect("the proved recovery is accepted");
+        let replay = replay.expect("recovery is accepted");
+        assert_eq!(recovered.meaning().as_ref(), Some(&replay.state));
+        assert_eq!(replay.log(), history.log());
+        let settings = history.settings();
+        assert_eq!(replay.settings(), settings);
+        self.check_log(&history.log().concat());
+        for _ in 0..settings.len().min(3) {
+            let Entry { key, word } = random.one_of(&settings);
+            assert_eq!(proved::open(&self.medium, &recovered, key), Ok(word));
+        }
+    }
+
+    /// The proved log is this one.
+    fn check_log(&self, log: &[Entry]) {
+        let (mut keys, mut words) = ([9; 6144], [9; 6144]);
+        assert_eq!(proved::log_into(&self.medium, &mut keys, &mut words), Ok(log.len()));
+        let changes = keys.iter().zip(&words).map(|(&key, &word)| Entry { key, word });
+        assert!(changes.take(log.len()).eq(log.iter().copied()), "the log");
+        assert!(keys[log.len()..].iter().all(|&key| key == 9), "places past the log");
+    }
+}
+
+/// Both answers are the same; whether it is a refusal.
+fn same<T: PartialEq + std::fmt::Debug>(
+    proved: Result<T, Refused>,
+    second: Result<T, Refused>,
+) -> Result<(), Refused> {
+    assert_eq!(proved, second);
+    second.map(drop)
+}
+
+/// The name of what is pending.
+fn pending_name(state: Option<&State>) -> &'static str {
+    match state.and_then(|state| state.pending.as_ref()) {
+        None => "nothing",
+        Some(Pending::Append { .. }) => "append",
+        Some(Pending::Commit { .. }) => "commit",
+        Some(Pending::Collect { .. }) => "collection",
+        Some(Pending::Format { .. }) => "formatting",
+    }
+}
+
+/// More of what happened: how large what was begun is, what was finished or
+/// cut. `before` is the state that the action was given.
+fn circumstances(before: Option<&State>, action: &Action, outcome: Outcome) -> Option<String> {
+    let pending = pending_name(before);
+    match outcome {
+        Outcome::Accepted => begun(before, action).map(String::from),
+        Outcome::Stepped(step) if step.finished => Some(format!("{pending} finished")),
+        Outcome::Cut { struck: Some(_), .. } => Some(format!("cut inside {pending}")),
+        _ => None,
+    }
+}
+
+/// The size of what was begun.
+fn begun(before: Option<&State>, action: &Action) -> Option<&'static str> {
+    let state = before?;
+    match action {
+        Action::Append { keys, .. } if keys.len() > 24 => Some("append of several pages"),
+        Action::Commit if state.index.len() > 24 => Some("commit of several pages"),
+        Action::Collect { block } => Some(match reader::live_count(state, *block) {
+            0 => "collection of no page",
+            1..=24 => "collection of one page",
+            _ => "collection of several pages",
+        }),
+        Action::Format if state.pending.is_some() => Some("format while something is pending"),
+        _ => None,
+    }
+}
+
+/// One list of calls and cuts, compared event by event.
+fn live(seed: u64, events: u64, counts: &mut Counts) {
+    let _seed = Seed(seed);
+    let mut random = Random::new(seed);
+    let mut twins = Twins::new(&mut random);
+    let mut since_cut = u64::MAX;
+    for _ in 0..events {
+        if twins.life.just_formatted() && random.one_in(4) {
+            twins.grow_old(random.one_of(&[3, 20, 100, 250]));
+        }
+        let action = twins.life.next_action(&mut random);
+        let before = twins.life.state.clone();
+        let outcome = twins.act(&action);
+        count(counts, happening(&action, outcome));
+        if let Some(name) = circumstances(before.as_ref(), &action, outcome) {
+            count(counts, name);
+        }
+        let cut = matches!(outcome, Outcome::Cut { .. });
+        if cut || random.one_in(8) {
+            twins.check_recovery(&mut random);
+        }
+        if cut && since_cut < 4 {
+            count(counts, "cut soon after a cut");
+        }
+        since_cut = if cut { 0 } else { since_cut.saturating_add(1) };
+    }
+}
+
+/// What must happen in the lists, and how often at least.
+#[rustfmt::skip]
+const HAPPENINGS: [(usize, &[&str]); 2] = [
+    (200, &[
+        "append", "commit", "collect", "recover", "format", "read", "step page", "step block",
+        "append refused 8", "append refused 12", "append refused 13", "append refused 14",
+        "commit refused 8", "collect refused 8", "collect refused 15", "step refused 9",
+        "append of several pages", "commit of several pages", "collection of no page",
+        "collection of one page", "collection of several pages", "append finished",
+        "commit finished", "collection finished", "formatting finished",
+        "cut between nothing", "cut inside page", "cut inside page complete",
+        "cut inside block", "cut inside append", "cut inside commit", "cut inside collection",
+        "cut soon after a cut",
+    ]),
+    (5, &[
+        "append refused 10", "append refused 11", "commit refused 13", "commit refused 14",
+        "collect refused 13", "collect refused 14", "read refused 17", "read refused 18",
+        "cut inside formatting", "format while something is pending",
+    ]),
+];
+
+#[test]
+fn lists_of_calls_and_cuts() {
+    let events = variable("JOURNAL_EVENTS").unwrap_or(EVENTS);
+    let first = variable("JOURNAL_SEED").unwrap_or(1);
+    let (mut counts, start) = (Counts::new(), Instant::now());
+    for life in 0..events.div_ceil(LIFE) {
+        live(first + life, LIFE.min(events - life * LIFE), &mut counts);
+    }
+    for (name, times) in &counts {
+        println!("{times:7} {name}");
+    }
+    let seconds = start.elapsed().as_secs_f64();
+    println!("{events} events in {seconds:.1} s: {:.0} a second", events as f64 / seconds);
+    // A step that is due can be made.
+    for name in ["step refused 6", "step refused 7", "step refused 14", "step refused 16"] {
+        assert!(!counts.contains_key(name), "{name}");
+    }
+    for (least, names) in HAPPENINGS.iter().filter(|_| events >= EVENTS) {
+        for &name in *names {
+            let times = counts.get(name).copied().unwrap_or(0);
+            assert!(times >= *least, "{times} times: {name}");
+        }
+    }
+}
+
+// ---------------------------------------------------------------------------
+// Any medium, any state, any lists
+
+/// What the second implementation says of a state that the library is given,
+/// and the state it leaves; one that means nothing is unfit.
+fn expected<T>(
+    medium: &[u8],
+    given: &VjState,
+    call: impl FnOnce(&mut State) -> Result<T, Refused>,
+) -> (Result<T, Refused>, Option<State>) {
+    let mut state = given.meaning();
+    let answer = match &mut state {
+        Some(state) => call(state),
+        None => Err(reader::check_length(medium).err().unwrap_or(Refused(7))),
+    };
+    (answer, state)
+}
+
+/// The state handed back is the one given after a refusal, else the one that
+/// the second implementation leaves.
+fn check_handed_back(refused: bool, given: &VjState, back: &VjState, left: Option<State>) {
+    if refused {
+        assert!(back == given, "a refusal hands back the state given");
+    } else {
+        assert_eq!(back.meaning(), left);
+    }
+}
+
+/// What came of the calls, by call and number.
+struct Answers(BTreeMap<(&'static str, u8), usize>);
+
+impl Answers {
+    fn note<T>(&mut self, call: &'static str, answer: &Result<T, Refused>) {
+        let number = answer.as_ref().err().map_or(0, |refused| refused.0);
+        *self.0.entry((call, number)).or_insert(0) += 1;
+    }
+
+    /// A call that begins something, in both. What it hands back if accepted.
+    fn begin(
+        &mut self,
+        name: &'static str,
+        medium: &[u8],
+        given: &VjState,
+        proved: impl FnOnce(&[u8], &mut VjState) -> Result<(), Refused>,
+        second: impl FnOnce(&[u8], &mut State) -> Result<(), Refused>,
+    ) -> Option<VjState> {
+        let (lent, mut back) = (medium.to_vec(), *given);
+        let answer = proved(&lent, &mut back);
+        let (expected, left) = expected(medium, given, |state| second(medium, state));
+        assert_eq!(answer, expected, "{name}");
+        assert!(lent == medium, "{name} leaves the medium");
+        check_handed_back(answer.is_err(), given, &back, left);
+        self.note(name, &answer);
+        answer.ok().map(|()| back)
+    }
+
+    /// A step, in both. What it leaves if it is accepted and not the last.
+    fn step(&mut self, medium: &[u8], given: &VjState) -> Option<(Vec<u8>, VjState)> {
+        let (mut lent, mut back) = (medium.to_vec(), *given);
+        let answer = proved::step(&mut lent, &mut back);
+        let mut after = medium.to_vec();
+        let (expected, left) = expected(medium, given, |state| writer::step(&mut after, state));
+        assert_eq!(answer, expected, "step");
+        assert!(lent == after, "step leaves the medium as the second implementation does");
+        check_handed_back(answer.is_err(), given, &back, left);
+        self.note("step", &answer);
+        answer.ok().filter(|step| !step.finished).map(|_| (lent, back))
+    }
+
+    /// Steps until one is refused or the last, at most twelve.
+    fn steps(&mut self, medium: &[u8], given: &VjState) {
+        let mut next = self.step(medium, given);
+        for _ in 1..12 {
+            let Some((medium, state)) = next else { return };
+            next = self.step(&medium, &state);
+        }
+    }
+
+    /// Every call that writes, and available pages.
+    fn all(&mut self, random: &mut Random, medium: &[u8], given: &VjState) {
+        let formatting = proved::format(medium);
+        let expected_format = writer::format(medium);
+        self.note("format", &formatting);
+        let meaning = formatting.map(|state| state.meaning().expect("a meaning"));
+        assert_eq!(meaning, expected_format);
+        self.available(medium, given);
+        let (keys, words) = some_lists(random);
+        let (lent_keys, lent_words) = (keys.clone(), words.clone());
+        let block = some_block(random, medium, given);
+        let begun = [
+            self.begin(
+                "append",
+                medium,
+                given,
+                |medium, state| proved::append(medium, state, &lent_keys, &lent_words),
+                |medium, state| writer::append(medium, state, &keys, &words),
+            ),
+            self.begin("commit", medium, given, proved::commit, writer::commit),
+            self.begin(
+                "collect",
+                medium,
+                given,
+                |medium, state| proved::collect(medium, state, block),
+                |medium, state| writer::collect(medium, state, block),
+            ),
+        ];
+        assert!(lent_keys == keys && lent_words == words, "the lists stay");
+        self.steps(medium, given);
+        for state in begun.iter().flatten().filter(|_| random.one_in(2)) {
+            self.steps(medium, state);
+        }
+    }
+
+    fn available(&mut self, medium: &[u8], given: &VjState) {
+        let answer = proved::count_available(medium, given);
+        let call = |state: &mut State| reader::count_available(medium, state);
+        assert_eq!(answer, expected(medium, given, call).0, "available");
+        self.note("available", &answer);
+    }
+}
+
+/// Two lists for an append, mostly of one length, of entries mostly lawful.
+fn some_lists(random: &mut Random) -> (Vec<u16>, Vec<u64>) {
+    let lengths = [0, 1, 2, 23, 24, 25, 48, 72, 73, 95, 96, 97, 98, 192, 193, 4096];
+    let length = if random.one_in(2) { random.from_to(1, 96) } else { random.one_of(&lengths) };
+    let valves = random.one_of(&[30, 200, 32768]);
+    let mut keys: Vec<u16> = (0..length).map(|_| random.below(valves) as u16).collect();
+    let mut words: Vec<u64> = (0..length).map(|_| random.word()).collect();
+    for (key, word) in keys.iter_mut().zip(&mut words) {
+        if random.one_in(5) {
+            *key += REMOVAL;
+            *word = 0;
+        }
+    }
+    match random.below(12) {
+        0 => keys.push(5),
+        1 => words.push(5),
+        2 => words.truncate(length / 2),
+        3 => keys.extend([32773; 3]),
+        4 if length > 0 => keys[random.below(length)] |= REMOVAL,
+        _ => {}
+    }
+    (keys, words)
+}
+
+/// Mostly a collectible block, if there is one, with many live nodes; or any
+/// number.
+fn some_block(random: &mut Random, medium: &[u8], given: &VjState) -> usize {
+    let state = given.meaning().filter(|state| reader::check_state(medium, state).is_ok());
+    let most_live = state.and_then(|state| {
+        let collectible = |block: &usize| reader::collectible(medium, &state, *block);
+        (0..16).filter(collectible).max_by_key(|&block| reader::live_count(&state, block))
+    });
+    match most_live {
+        Some(block) if !random.one_in(3) => block,
+        _ if random.one_in(8) => random.one_of(&[16, 255, 1 << 32, usize::MAX / 16, usize::MAX]),
+        _ => random.below(17),
+    }
+}
+
+/// Brings a life to a commit, and half of the time on to a collection.
+fn towards_a_collection(random: &mut Random, life: &mut Life) {
+    if life.state.is_none() {
+        life.act(&Action::Recover);
+    }
+    steps_of(life, 20);
+    life.act(&Action::Commit);
+    steps_of(life, 20);
+    let picked = life.state.as_ref().and_then(|state| reader::pick(&life.medium, state).ok()?);
+    if let Some(block) = picked.filter(|_| random.one_in(2)) {
+        life.act(&Action::Collect { block });
+        steps_of(life, random.below(3));
+    }
+}
+
+/// So many steps, or until nothing is pending.
+fn steps_of(life: &mut Life, most: usize) {
+    for _ in 0..most {
+        if pending_name(life.state.as_ref()) == "nothing" {
+            return;
+        }
+        life.act(&Action::Step);
+    }
+}
+
+/// A medium and a state of its own that may have been changed in many ways.
+fn some_variant(random: &mut Random, life: &Life) -> (Vec<u8>, VjState) {
+    let mut medium = life.medium.clone();
+    let blocks = medium.len() / BLOCK_BYTES;
+    let mut state = match (&life.state, reader::recover(&medium)) {
+        (Some(state), _) if !random.one_in(4) => state.clone(),
+        (_, Ok(state)) => state,
+        _ => State::at_format(blocks),
+    };
+    for _ in 0..random.below(4) {
+        match random.below(6) {
+            0 => crowd(random, &mut medium, &mut state),
+            1 => spoil_a_node(random, &mut medium, &state),
+            4 if !state.index.is_empty() => {
+                // Two valves of one address: at most one has its node there.
+                let at = random.below(state.index.len());
+                state.index[at].address = random.one_of(&state.index).address;
+            }
+            2 => state.next_serial = u64::MAX - random.below(5) as u64,
+            3 => random::damage_state(random, &mut state),
+            _ if medium.len() >= PAGE_BYTES => random::damage(random, &mut medium),
+            _ => {}
+        }
+    }
+    let mut given = VjState::from(&state);
+    if random.one_in(2) {
+        fill_idle_places(random, &mut given);
+    }
+    if random.one_in(4) {
+        damage_fields(random, &mut given);
+    }
+    (medium, given)
+}
+
+/// Makes most clean blocks unclean, so that few pages are available, and
+/// mostly leaves few in the head.
+fn crowd(random: &mut Random, medium: &mut [u8], state: &mut State) {
+    for block in medium.chunks_exact_mut(BLOCK_BYTES) {
+        if block.iter().all(|&byte| byte == 0xFF) && !random.one_in(8) {
+            block[random.below(BLOCK_BYTES)] = random.bits() as u8;
+        }
+    }
+    if !random.one_in(4) {
+        state.next_page = random.from_to(14, 16);
+    }
+}
+
+/// Turns a bit in a page that holds a live node.
+fn spoil_a_node(random: &mut Random, medium: &mut [u8], state: &State) {
+    if state.index.is_empty() {
+        return;
+    }
+    let page = random.one_of(&state.index).address as usize / 24;
+    let at = page * PAGE_BYTES + random.below(PAGE_BYTES);
+    if let Some(byte) = medium.get_mut(at) {
+        *byte ^= 1 << random.below(8);
+    }
+}
+
+/// A number near an end of what a field may hold, or any.
+fn some_number(random: &mut Random) -> u64 {
+    match random.below(3) {
+        0 => random.below(20) as u64,
+        1 => random.one_of(&[23, 96, 97, 192, 193, 256, 1 << 16, 1 << 32, 1 << 60, u64::MAX]),
+        _ => random.bits(),
+    }
+}
+
+/// Fills cells by chance.
+fn fill_cells(random: &mut Random, cells: &mut [VjCell]) {
+    for cell in cells {
+        *cell = VjCell { key: random.bits() as u16, val: random.bits() };
+    }
+}
+
+/// Fills the places that mean nothing: the state means what it did.
+fn fill_idle_places(random: &mut Random, state: &mut VjState) {
+    let meaning = state.meaning();
+    let used = state.index.count.min(192);
+    fill_cells(random, &mut state.index.cells[used..]);
+    if state.operation == proved::APPEND {
+        let used = state.group.count.min(192);
+        fill_cells(random, &mut state.group.cells[used..]);
+        let written = (state.progress as usize).min(4);
+        state.pages[written..].fill(random.bits() as u16);
+    } else {
+        fill_cells(random, &mut state.group.cells);
+        state.group.count = some_number(random) as usize;
+        state.pages = std::array::from_fn(|_| random.bits() as u16);
+    }
+    if state.operation == proved::IDLE {
+        state.progress = some_number(random);
+    }
+    assert_eq!(state.meaning(), meaning);
+}
+
+/// Changes fields of a state as the library has it, one or all.
+fn damage_fields(random: &mut Random, state: &mut VjState) {
+    match random.below(8) {
+        0 => state.operation = random.from_to(5, 255) as u8,
+        1 => state.operation = random.below(5) as u8,
+        2 => state.index.count = random.one_of(&[193, 194, 1 << 32, usize::MAX]),
+        3 => state.group.count = some_number(random) as usize,
+        4 | 5 => state.progress = some_number(random),
+        6 => state.pages = std::array::from_fn(|_| random.bits() as u16),
+        _ => {
+            let blocks = state.head.blocks;
+            *state = any_state(random);
+            if random.one_in(2) {
+                state.head.blocks = blocks;
+            }
+        }
+    }
+}
+
+/// A state with every field by chance.
+fn any_state(random: &mut Random) -> VjState {
+    let mut state = VjState::from(&State::at_format(random.from_to(4, 16)));
+    state.head.blocks = some_number(random) as usize;
+    state.head.block = some_number(random) as usize;
+    state.head.next = some_number(random) as usize;
+    state.head.serial = some_number(random);
+    state.head.base = some_number(random);
+    fill_cells(random, &mut state.index.cells);
+    fill_cells(random, &mut state.group.cells);
+    state.index.count = some_number(random) as usize;
+    state.group.count = some_number(random) as usize;
+    state.pages = std::array::from_fn(|_| random.bits() as u16);
+    state.operation = random.below(7) as u8;
+    state.progress = some_number(random);
+    state
+}
+
+/// Bytes of any length, mostly an allowed one, all of one value or by chance.
+fn any_bytes(random: &mut Random) -> Vec<u8> {
+    let length = match random.below(4) {
+        0 => random.below(70_000),
+        1 => random.one_of(&[0, 1, 256, 4096, 12288, 16383, 16385, 65537, 69632]),
+        _ => random.from_to(4, 16) * BLOCK_BYTES,
+    };
+    let mut bytes = vec![random.one_of(&[0, 0xFF]); length];
+    if random.one_in(2) {
+        random.fill(&mut bytes);
+    }
+    bytes
+}
+
+/// The numbers that each call may answer, 0 being no refusal.
+const NUMBERS: [(&str, &[u8]); 6] = [
+    ("format", &[0, 1]),
+    ("append", &[0, 1, 7, 8, 10, 11, 12, 13, 14]),
+    ("commit", &[0, 1, 7, 8, 13, 14]),
+    ("collect", &[0, 1, 7, 8, 15, 6, 13, 14]),
+    ("step", &[0, 1, 7, 9, 6, 14, 16]),
+    ("available", &[0, 1, 7]),
+];
+
+#[test]
+fn any_medium_any_state_and_any_lists() {
+    let first = variable("JOURNAL_SEED").unwrap_or(1);
+    let mut answers = Answers(BTreeMap::new());
+    for seed in first..first + 400 {
+        let _seed = Seed(seed);
+        let mut random = Random::new(!seed);
+        let events = random.below(400);
+        let mut life = random::lived(&mut random, events);
+        if random.one_in(2) {
+            towards_a_collection(&mut random, &mut life);
+        }
+        for _ in 0..30 {
+            let (medium, given) = some_variant(&mut random, &life);
+            answers.all(&mut random, &medium, &given);
+        }
+        let medium = any_bytes(&mut random);
+        for given in [any_state(&mut random), VjState::from(&State::at_format(4))] {
+            answers.all(&mut random, &medium, &given);
+        }
+    }
+    println!("{:?}", answers.0);
+    for ((call, number), times) in &answers.0 {
+        let numbers = NUMBERS.iter().find(|(name, _)| name == call).expect("a call").1;
+        assert!(numbers.contains(number), "{call} answers {number}, {times} times");
+    }
+    for (call, numbers) in NUMBERS {
+        for &number in numbers {
+            let times = answers.0.get(&(call, number)).copied().unwrap_or(0);
+            assert!(times >= 20, "{call} answers {number} only {times} times");
+        }
+    }
+}
