@@ -52,9 +52,9 @@ static VjState morning(void)
             printf("%u -\n", (unsigned)keys[i] - 32768);
     printf("set %zu\n", found.state.index.count);
     for (size_t i = 0; i < found.state.index.count; i++) {
-        VjWord opening = vj_opening(medium, sizeof medium, found.state, found.state.index.cells[i].key);
+        VjWord opening = vj_opening(medium, sizeof medium, found.state, found.state.index.keys[i]);
         expect("opening", opening.number);
-        printf("%u %" PRIu64 "\n", (unsigned)found.state.index.cells[i].key, opening.word);
+        printf("%u %" PRIu64 "\n", (unsigned)found.state.index.keys[i], opening.word);
     }
     return found.state;
 }

@@ -50,10 +50,10 @@ fn morning(m: &[u8]) -> VjState {
         if *key < 32768 { println!("{key} {word}") } else { println!("{} -", key - 32768) }
     }
     println!("set {}", found.state.index.count);
-    for place in &found.state.index.cells[..found.state.index.count] {
-        let opening = unsafe { vj_opening(m.as_ptr(), m.len(), found.state, place.key) };
+    for &valve in &found.state.index.keys[..found.state.index.count] {
+        let opening = unsafe { vj_opening(m.as_ptr(), m.len(), found.state, valve) };
         expect("opening", opening.number);
-        println!("{} {}", place.key, opening.word);
+        println!("{valve} {}", opening.word);
     }
     found.state
 }

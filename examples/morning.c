@@ -37,10 +37,10 @@ int main(void)
     const VjCells *set = &found.state.index;
     printf("set %zu\n", set->count);
     for (size_t i = 0; i < set->count; i++) {
-        VjWord opening = vj_opening(medium, length, found.state, set->cells[i].key);
+        VjWord opening = vj_opening(medium, length, found.state, set->keys[i]);
         if (opening.number != 0)
             return refused(opening.number);
-        printf("%u %" PRIu64 "\n", (unsigned)set->cells[i].key, opening.word);
+        printf("%u %" PRIu64 "\n", (unsigned)set->keys[i], opening.word);
     }
     return 0;
 }

@@ -40,9 +40,9 @@ fn main() {
                 if key < 32768 { println!("{key} {word}") } else { println!("{} -", key - 32768) }
             }
             println!("set {}", state.index.count);
-            for c in &state.index.cells[..state.index.count] {
-                match opening(&m, state, c.key) {
-                    Ok(word) => println!("{} {word}", c.key),
+            for &valve in &state.index.keys[..state.index.count] {
+                match opening(&m, state, valve) {
+                    Ok(word) => println!("{valve} {word}"),
                     Err(number) => return println!("refused {number}"),
                 }
             }

@@ -42,17 +42,12 @@
 extern "C" {
 #endif
 
-/* A number under a key. In the index: a valve and the address of its entry, 24 x page + place. In a group: a key and a word; the key is
- * the valve, or 32768 + valve for a removal. */
-typedef struct VjCell {
-    uint16_t key;
-    uint64_t val;
-} VjCell;
-
-/* A list of at most 192 cells. */
+/* A list of at most 192 numbers under keys, the number under keys[i] in vals[i]. In the index: a valve and the address of its entry,
+ * 24 x page + place. In a group: a key and a word; the key is the valve, or 32768 + valve for a removal. */
 typedef struct VjCells {
-    size_t count;      /* how many of `cells` are in the list, from the first on */
-    VjCell cells[192]; /* places from `count` on mean nothing */
+    size_t count;       /* how many are in the list, from the first on */
+    uint16_t keys[192]; /* places from `count` on mean nothing */
+    uint64_t vals[192]; /* the same */
 } VjCells;
 
 /* Where the journal writes next. */

@@ -2,20 +2,13 @@
 //!
 //! Link with `target/staticlib/libjournal_c.a`, which `rt staticlib journal_c` writes.
 
-/// A number under a key.
-#[repr(C)]
-#[derive(Clone, Copy, PartialEq, Eq, Debug)]
-pub struct VjCell {
-    pub key: u16,
-    pub val: u64,
-}
-
-/// A list of at most 192 cells.
+/// A list of at most 192 numbers under keys.
 #[repr(C)]
 #[derive(Clone, Copy, PartialEq, Eq, Debug)]
 pub struct VjCells {
     pub count: usize,
-    pub cells: [VjCell; 192],
+    pub keys: [u16; 192],
+    pub vals: [u64; 192],
 }
 
 /// Where the journal writes next.

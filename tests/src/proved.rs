@@ -16,16 +16,18 @@ use crate::writer::{Step, Touched};
 impl VjCells {
     /// A list as the library has it; what is past 192 shows in the count alone.
     fn of(list: impl ExactSizeIterator<Item = (u16, u64)>) -> VjCells {
-        let mut cells = VjCells { count: list.len(), cells: [VjCell { key: 0, val: 0 }; 192] };
-        for (cell, (key, val)) in cells.cells.iter_mut().zip(list) {
-            *cell = VjCell { key, val };
+        let mut cells = VjCells { count: list.len(), keys: [0; 192], vals: [0; 192] };
+        for (i, (key, val)) in list.take(192).enumerate() {
+            (cells.keys[i], cells.vals[i]) = (key, val);
         }
         cells
     }
 
-    /// The cells in the list; none where the count is past 192.
-    fn used(&self) -> Option<&[VjCell]> {
-        self.cells.get(..self.count)
+    /// The keys in the list with the numbers under them; none where the count
+    /// is past 192.
+    fn used(&self) -> Option<impl Iterator<Item = (u16, u64)> + '_> {
+        let (keys, vals) = (self.keys.get(..self.count)?, self.vals.get(..self.count)?);
+        Some(keys.iter().copied().zip(vals.iter().copied()))
     }
 }
 
@@ -64,14 +66,14 @@ impl VjState {
     /// operation names none, a list that means something has a count past 192,
     /// or an append has written more than four pages; such a state is unfit.
     pub fn meaning(&self) -> Option<State> {
-        let place = |cell: &VjCell| Place { valve: cell.key, address: cell.val };
+        let place = |(valve, address)| Place { valve, address };
         Some(State {
             blocks: self.head.blocks,
             head: self.head.block,
             next_page: self.head.next,
             next_serial: self.head.serial,
             first_base_serial: self.head.base,
-            index: self.index.used()?.iter().map(place).collect(),
+            index: self.index.used()?.map(place).collect(),
             pending: self.pending()?,
         })
     }
@@ -82,8 +84,8 @@ impl VjState {
         match self.operation {
             IDLE => Some(None),
             APPEND => {
-                let entry = |cell: &VjCell| Entry { key: cell.key, word: cell.val };
-                let entries = self.group.used()?.iter().map(entry).collect();
+                let entry = |(key, word)| Entry { key, word };
+                let entries = self.group.used()?.map(entry).collect();
                 let written = self.pages.get(..progress)?.iter().map(|&page| page.into());
                 Some(Some(Pending::Append { entries, written: written.collect() }))
             }
@@ -204,4 +206,4 @@ pub fn step(medium: &mut [u8], state: &mut VjState) -> Result<Step, Refused> {
     Ok(Step { touched, finished: r.finished == 1 })
 }
 
-const _: () = assert!(MAX_VALVES == 192 && size_of::<VjState>() == 6224);
+const _: () = assert!(MAX_VALVES == 192 && size_of::<VjState>() == 3920);

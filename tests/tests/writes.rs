@@ -12,7 +12,7 @@
 mod common;
 
 use common::{blank, happening, refused, valves};
-use journal_tests::proved::{self, VjCell, VjState};
+use journal_tests::proved::{self, VjCells, VjState};
 use journal_tests::random::{self, cut_step, Action, Life, Outcome, Random, Reading};
 use journal_tests::reader::{self, Entry, Refused, BLOCK_BYTES, PAGE_BYTES, REMOVAL};
 use journal_tests::writer::{self, Pending, State, Step, Touched};
@@ -747,10 +747,10 @@ fn some_number(random: &mut Random) -> u64 {
     }
 }
 
-/// Fills cells by chance.
-fn fill_cells(random: &mut Random, cells: &mut [VjCell]) {
-    for cell in cells {
-        *cell = VjCell { key: random.bits() as u16, val: random.bits() };
+/// Fills the places from one on by chance.
+fn fill_cells(random: &mut Random, cells: &mut VjCells, from: usize) {
+    for i in from..192 {
+        (cells.keys[i], cells.vals[i]) = (random.bits() as u16, random.bits());
     }
 }
 
@@ -758,14 +758,14 @@ fn fill_cells(random: &mut Random, cells: &mut [VjCell]) {
 fn fill_idle_places(random: &mut Random, state: &mut VjState) {
     let meaning = state.meaning();
     let used = state.index.count.min(192);
-    fill_cells(random, &mut state.index.cells[used..]);
+    fill_cells(random, &mut state.index, used);
     if state.operation == proved::APPEND {
         let used = state.group.count.min(192);
-        fill_cells(random, &mut state.group.cells[used..]);
+        fill_cells(random, &mut state.group, used);
         let written = (state.progress as usize).min(4);
         state.pages[written..].fill(random.bits() as u16);
     } else {
-        fill_cells(random, &mut state.group.cells);
+        fill_cells(random, &mut state.group, 0);
         state.group.count = some_number(random) as usize;
         state.pages = std::array::from_fn(|_| random.bits() as u16);
     }
@@ -802,8 +802,8 @@ fn any_state(random: &mut Random) -> VjState {
     state.head.next = some_number(random) as usize;
     state.head.serial = some_number(random);
     state.head.base = some_number(random);
-    fill_cells(random, &mut state.index.cells);
-    fill_cells(random, &mut state.group.cells);
+    fill_cells(random, &mut state.index, 0);
+    fill_cells(random, &mut state.group, 0);
     state.index.count = some_number(random) as usize;
     state.group.count = some_number(random) as usize;
     state.pages = std::array::from_fn(|_| random.bits() as u16);

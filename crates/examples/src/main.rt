@@ -48,12 +48,11 @@ fn start(s: &[u8]) {
 
 // The test pages.
 fn pages() {
-    let none = index::empty();
-    let base = build::page_bytes(2, 3, 1, none);
+    let base = trials::base(1);
     text(b"empty base, serial 1:");
     start(&base);
     about(&base);
-    let node = build::page_bytes(1, 3, 2, trials::one(5, 1000));
+    let node = trials::one(1, 2, 5, 1000);
     text(b"kind 1, flags 3, n 1, serial 2, valve 5, word 1000:\n");
     about(&node);
     let mut torn = node;

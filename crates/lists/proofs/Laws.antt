@@ -8,12 +8,12 @@ use native.Mathlib.Numerals.{add-one}
 use native.Mathlib.Decide.{decLt}
 use borrow.Author.Tests.{leb-true, not-true, not-false}
 use lib.Dec.{leb}
-use lib.ListN.{length, getD, take, drop, replicate, length-append, length-take, length-replicate, getD-replicate, List·getD-append, List·getD-eq-default}
-use lib.Seq.{getD-drop, getD-take, getD-append-add, getD-append-seam}
+use lib.ListN.{length, getD, take, drop, replicate, length-append, length-take, length-replicate, getD-replicate, drop-of-length-le, List·getD-append, List·getD-eq-default}
+use lib.Seq.{drop-cons, ext-getD, getD-drop, getD-take, getD-append-add, getD-append-seam}
 use Rattle.lists.specs.declared.Cell.{Cell}
 use Rattle.lists.specs.Needs.{Need, need, checked, numberOf}
 use Rattle.lists.specs.Lists.{keep, all, every, allBelow, oneIf, countBelow, table, first, Below}
-use Rattle.lists.specs.Cells.{cell, keysOf, wordsOf}
+use Rattle.lists.specs.Cells.{cell, pairs, keysOf, wordsOf}
 
 -- ---- truth values
 
@@ -301,6 +301,30 @@ module _ {A : Type 0} (d : A) where
           ∙ getD-replicate (n - length s) (i - length s) d d (omega arith)
           ∙ sym (List·getD-eq-default s d {n = i} (omega arith))
 
+-- ---- cells in two arrays
+
+module _ (n : ℕ) (ks vs : List ℕ) where
+  pub length-pairs : length (pairs n ks vs) ≡ n
+  unfolding pairs
+  length-pairs = length-table (λ i. cell (getD ks i 0) (getD vs i 0)) (cell 0 0) n
+
+  pub get-pairs : (i : ℕ) → i < n → getD (pairs n ks vs) i (cell 0 0) ≡ cell (getD ks i 0) (getD vs i 0)
+  unfolding pairs
+  get-pairs i h = get-table (λ i. cell (getD ks i 0) (getD vs i 0)) (cell 0 0) n i h
+
+  pub pairs-none : n ≡ 0 → pairs n ks vs ≡ []
+  unfolding pairs table
+  pairs-none e = rw e
+
+  -- those from place i on
+  pub pairs-cons : (i : ℕ) → i < n → drop i (pairs n ks vs) ≡ cell (getD ks i 0) (getD vs i 0) ∷ drop (i + 1) (pairs n ks vs)
+  pairs-cons i h =
+      let k : i < length (pairs n ks vs) = omega (arith, length-pairs) in
+      rw (add-one, drop-cons (pairs n ks vs) i (cell 0 0) k, get-pairs i h)
+
+  pub pairs-past : (i : ℕ) → n ≤ i → drop i (pairs n ks vs) ≡ []
+  pairs-past i h = drop-of-length-le (pairs n ks vs) {i = i} (omega (arith, length-pairs))
+
 -- ---- keys and words
 
 pub length-keys : (l : List Cell) → length (keysOf l) ≡ length l
@@ -324,6 +348,18 @@ unfolding wordsOf
 word-at [] i = refl
 word-at (x ∷ xs) zero = refl
 word-at (x ∷ xs) (suc i) = word-at xs i
+
+-- the keys and the words of cells in two arrays that they fill
+module _ (ks vs : List ℕ) where
+  pub keys-pairs : keysOf (pairs (length ks) ks vs) ≡ ks
+  keys-pairs =
+      ext-getD 0 _ ks (length-keys (pairs (length ks) ks vs) ∙ length-pairs (length ks) ks vs)
+      (λ i h. key-at (pairs (length ks) ks vs) i ∙ ap (λ (x : Cell). x .key) (get-pairs (length ks) ks vs i (omega (arith, length-keys (pairs (length ks) ks vs), length-pairs (length ks) ks vs))))
+
+  pub words-pairs : wordsOf (pairs (length vs) ks vs) ≡ vs
+  words-pairs =
+      ext-getD 0 _ vs (length-words (pairs (length vs) ks vs) ∙ length-pairs (length vs) ks vs)
+      (λ i h. word-at (pairs (length vs) ks vs) i ∙ ap (λ (x : Cell). x .val) (get-pairs (length vs) ks vs i (omega (arith, length-words (pairs (length vs) ks vs), length-pairs (length vs) ks vs))))
 
 -- ---- numbers below a bound
 

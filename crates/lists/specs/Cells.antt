@@ -1,9 +1,10 @@
 -- A number under a key, and its three names.
 use mathlib.Core.List.{List, [], _∷_}
 use Prim.Native.Nat.{ℕ}
+use lib.ListN.{getD}
 use Rattle.lists.specs.declared.Cell.{Cell}
 use Rattle.lists.specs.declared.Cells.{Cells}
-use Rattle.lists.specs.Lists.{first}
+use Rattle.lists.specs.Lists.{table}
 
 abbrev pub cell : ℕ → ℕ → Cell
 cell k a = record { key = k; val = a }
@@ -20,9 +21,13 @@ Setting = Cell
 abbrev pub Place : Type 0
 Place = Cell
 
+-- the cells that two lists hold in their first n places, the keys in one and the numbers under them in the other
+unfoldable pub pairs : ℕ → List ℕ → List ℕ → List Cell
+pairs n ks vs = table n (λ i. cell (getD ks i 0) (getD vs i 0))
+
 -- the list that a Cells stands for
 abbrev pub listed : Cells → List Cell
-listed c = first (cell 0 0) (c .count) (c .cells)
+listed c = pairs (c .count) (c .keys) (c .vals)
 
 -- the keys of a list, and its words
 unfoldable pub keysOf : List Cell → List ℕ

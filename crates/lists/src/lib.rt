@@ -7,9 +7,11 @@ pub struct Cell {
     pub val: u64,
 }
 
-// A list of at most 192 cells by value: the first `count` places. What the places past them hold means nothing.
+// A list of at most 192 cells by value: the first `count` places of two arrays, the keys in one and the numbers under them in the other.
+// What the places past them hold means nothing.
 #[repr(C)]
 pub struct Cells {
     pub count: usize,
-    pub cells: [Cell; 192],
+    pub keys: [u16; 192],
+    pub vals: [u64; 192],
 }

@@ -5,18 +5,14 @@ use read::Opened;
 // A page of one entry, with valve 5, programmed.
 fn put_page(m: &mut [u8], p: usize, kind: u8, serial: u64, word: u64) {
     if p < m.len() / 256 {
-        flash::program(
-            m,
-            p,
-            build::page_bytes(kind, 3, serial, trials::one(5, word)),
-        );
+        flash::program(m, p, trials::one(kind, serial, 5, word));
     }
 }
 
 // An empty base in page 0.
 fn put_base(m: &mut [u8], serial: u64) {
     if 0 < m.len() / 256 {
-        flash::program(m, 0, build::page_bytes(2, 3, serial, index::empty()));
+        flash::program(m, 0, trials::base(serial));
     }
 }
 

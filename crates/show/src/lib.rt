@@ -97,8 +97,7 @@ fn settings(m: &[u8], s: State)
     line(b"set ", n as u64);
     let mut i: usize = 0;
     while i < n {
-        let x = index.cells[i];
-        setting(m, s, x.key);
+        setting(m, s, index.keys[i]);
         i += 1;
     }
 }

@@ -10,9 +10,11 @@ use lib.Dec.{eqb}
 use borrow.Author.Tests.{eq-eqb, ne-eqb}
 use lib.Seq.{length-take-le, take-all, take-suc-set}
 use Rattle.lists.specs.declared.Cell.{Cell}
-use Rattle.lists.specs.Lists.{first, table}
-use Rattle.lists.specs.Cells.{cell}
-use Rattle.lists.proofs.Laws.{length-table}
+use Rattle.lists.specs.Lists.{table}
+use Rattle.lists.specs.Cells.{cell, pairs}
+use Rattle.lists.proofs.Laws.{length-table, pairs-none}
+use Rattle.page.specs.Pages as pages
+use Rattle.page.specs.Layout.{encode}
 use Rattle.flash.specs.Medium.{views}
 use Rattle.state.specs.declared.State.{State}
 use Rattle.state.specs.State.{meaning}
@@ -123,13 +125,16 @@ carried-formats m r (Told.ready h) e = e
 pub carried-formatted : (m m′ : List ℕ) (f : Formatted) (b : Begun) (t : Trial) → formattedOf b ≡ f → runAs t m′ ≡ carried m (toldOf b) → Formats m (runAs t m′) f
 carried-formatted m m′ f b t q e = rw (← q) (carried-formats m (runAs t m′) (toldOf b) e)
 
--- ---- groups of valves
+-- ---- pages made by hand
 
--- a list of one cell
-pub listed-one : (s : List Cell) (x : Cell) → length s ≡ 192 → first (cell 0 0) 1 (set s 0 x) ≡ x ∷ []
-unfolding first
-listed-one [] x h = absurd (omega (arith, h))
-listed-one (y ∷ ys) x h = let none : 1 - length (x ∷ ys) ≡ 0 = omega arith in ap (λ n. x ∷ replicate n (cell 0 0)) none
+pub one-entry : (kind serial k w : ℕ) (bs : List ℕ) → bs ≡ encode (pages.page kind 3 serial (pairs 1 (k ∷ []) (w ∷ []))) → bs ≡ encode (pages.page kind 3 serial (cell k w ∷ []))
+unfolding pairs table
+one-entry kind serial k w bs e = e
+
+pub no-entry : (serial : ℕ) (ks ws bs : List ℕ) → bs ≡ encode (pages.page 2 3 serial (pairs 0 ks ws)) → bs ≡ encode (pages.page 2 3 serial [])
+no-entry serial ks ws bs e = rw (pairs-none 0 ks ws refl) at e
+
+-- ---- groups of valves
 
 -- the first i keys are laid
 pub record Laid (low : ℕ) (keys : List ℕ) (i : ℕ) : Type 0 where

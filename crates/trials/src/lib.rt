@@ -3,7 +3,9 @@ ghost use mathlib.Core.Path.{_≡_};
 ghost use mathlib.Core.List.{[], _∷_};
 ghost use Prim.Native.Nat.{_≤_};
 ghost use lib.ListN.{length, take, replicate};
-ghost use Rattle.lists.specs.Cells.{cell, listed};
+ghost use Rattle.lists.specs.Cells.{cell};
+ghost use Rattle.page.specs.Pages.{page};
+ghost use Rattle.page.specs.Layout.{encode};
 ghost use Rattle.state.specs.State.{meaning};
 ghost use Rattle.calls.specs.Calls.{formatOf};
 ghost use Rattle.begin.specs.Begun.{toldOf, asFormatted, Appends};
@@ -11,8 +13,6 @@ ghost use Rattle.trials.specs.Runs.{numberIn, wentAs, turned, runAs, run
 use advance::Report;
 use begin::Answer;
 use begin::Begun;
-use lists::Cell;
-use lists::Cells;
 use state::State;
 
 // What a step did: a refusal's number or 0, the page or block it touched, whether the operation is over, and the state.
@@ -44,14 +44,20 @@ pub fn blank() -> [u8; 16384]
     [255u8; 16384]
 }
 
-// A list of one cell.
-pub fn one(key: u16, val: u64) -> Cells
-    ensures { λ r. ⌜ (r .count ≡ 1) × (listed r ≡ cell key val ∷ []) ⌝ }
+// A page of one entry, begun and ended.
+pub fn one(kind: u8, serial: u64, key: u16, word: u64) -> [u8; 256]
+    ensures { λ r. ⌜ r ≡ encode (page kind 3 serial (cell key word ∷ [])) ⌝ }
 {
-    let none = index::empty();
-    let mut cells = none.cells;
-    cells[0] = Cell { key, val };
-    Cells { count: 1, cells }
+    let keys = [key; 1];
+    let words = [word; 1];
+    build::page_bytes(kind, 3, serial, &keys, &words)
+}
+
+// The page of an empty base.
+pub fn base(serial: u64) -> [u8; 256]
+    ensures { λ r. ⌜ r ≡ encode (page 2 3 serial []) ⌝ }
+{
+    build::part_bytes(2, 3, serial, &[0u16; 1], &[0u64; 1], 0, 0)
 }
 
 // The number of a call's answer, 0 where it began an operation.

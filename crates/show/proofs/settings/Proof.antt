@@ -18,11 +18,11 @@ line-requires c κs = search needs
 loop-holds : tie.Need-loop-holds Inv-loop μ-loop
 loop-holds c = search needs
 
-mul-x : tie.Need-mul-x Inv-loop μ-loop
-mul-x c = search needs
+mul-setting : tie.Need-mul-setting Inv-loop μ-loop
+mul-setting c = search needs
 
-element-copy-out-x : tie.Need-element-copy-out-x Inv-loop μ-loop
-element-copy-out-x c = search needs
+element-copy-out-setting : tie.Need-element-copy-out-setting Inv-loop μ-loop
+element-copy-out-setting c = search needs
 
 setting-requires : tie.Need-setting-requires Inv-loop μ-loop
 setting-requires c κs = search needs
@@ -48,8 +48,8 @@ settings-spec =
     slice-aggregate-line
     line-requires
     loop-holds
-    mul-x
-    element-copy-out-x
+    mul-setting
+    element-copy-out-setting
     setting-requires
     add-i
     loop-less
