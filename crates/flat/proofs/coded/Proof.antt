@@ -19,19 +19,19 @@ enum-known-o-4 : tie.Need-enum-known-o-4
 enum-known-o-4 c = search needs
 
 returns : tie.Need-returns
-returns c = search (code-idle, needs)
+returns c = search code-idle
 
 returns-2 : tie.Need-returns-2
-returns-2 c = search (code-append, needs)
+returns-2 c = search code-append
 
 returns-3 : tie.Need-returns-3
-returns-3 c = search (code-commit, needs)
+returns-3 c = search code-commit
 
 returns-4 : tie.Need-returns-4
-returns-4 c = search (code-collect, needs)
+returns-4 c = search code-collect
 
 returns-5 : tie.Need-returns-5
-returns-5 c = search (code-format, needs)
+returns-5 c = search code-format
 
 pub coded-spec : {M : Type 1} → statement M
 coded-spec =

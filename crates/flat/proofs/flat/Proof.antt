@@ -7,7 +7,7 @@ coded-requires : tie.Need-coded-requires
 coded-requires c κs = search needs
 
 returns : tie.Need-returns
-returns c = search (flat-is, needs)
+returns c = search flat-is
 
 pub flat-spec : {M : Type 1} → statement M
 flat-spec = tie.close (tie.spec coded-requires returns)

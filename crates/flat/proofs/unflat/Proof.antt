@@ -7,7 +7,7 @@ name-of-requires : tie.Need-name-of-requires
 name-of-requires c κs = search needs
 
 returns : tie.Need-returns
-returns c = search (unflat-is, needs)
+returns c = search unflat-is
 
 pub unflat-spec : {M : Type 1} → statement M
 unflat-spec = tie.close (tie.spec name-of-requires returns)

@@ -11,7 +11,7 @@ returns : tie.Need-returns
 returns c = search chain depth 20
 
 returns-2 : tie.Need-returns-2
-returns-2 c = search (unknown-state, needs)
+returns-2 c = search unknown-state
 
 pub unknown-number-spec : {M : Type 1} → statement M
 unknown-number-spec = tie.close (tie.spec size-ok-requires returns returns-2)
