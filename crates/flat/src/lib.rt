@@ -1,16 +1,15 @@
 // The state in a flat form, as C programs lend it and get it back.
 ghost use mathlib.Core.Path.{_≡_};
-ghost use mathlib.Core.Option.{some};
-ghost use Rattle.lists.specs.Needs.{numberOf};
 ghost use Rattle.state.specs.State.{meaning};
-ghost use Rattle.flat.specs.Flat.{operationOf, namedBy, heldBy, heldIn, unknownNeeds};
+ghost use Rattle.flat.specs.Flat.{operationOf, heldBy};
 use blocks::Head;
 use lists::Cells;
 use state::Operation;
 use state::State;
 
-// The state in a flat form. `operation` is what is pending: 0 nothing, 1 an append, 2 a commit, 3 a collection, 4 formatting. `progress`
-// is the pages written of an append or a commit, a collection's block, the blocks erased in formatting.
+// The state in a flat form. `operation` is what is pending: 0 nothing, 1 an append, 2 a commit, 3 a collection, 4 formatting; any other
+// number names no operation, and the state is unfit. `progress` is the pages written of an append or a commit, a collection's block, the
+// blocks erased in formatting.
 #[repr(C)]
 pub struct VjState {
     pub head: Head,
@@ -31,7 +30,7 @@ pub struct Numbers {
 
 // The two numbers of an operation.
 fn coded(o: Operation) -> Numbers
-    ensures { λ r. ⌜ operationOf (r .operation) (r .progress) ≡ some o ⌝ }
+    ensures { λ r. ⌜ operationOf (r .operation) (r .progress) ≡ o ⌝ }
 {
     match o {
         Operation::Idle => Numbers {
@@ -54,12 +53,16 @@ fn coded(o: Operation) -> Numbers
             operation: 4,
             progress: n as u64,
         },
+        Operation::Unnamed => Numbers {
+            operation: 5,
+            progress: 0,
+        },
     }
 }
 
 // A state in its flat form.
 pub fn flat(s: State) -> VjState
-    ensures { λ r. ⌜ heldBy r ≡ some (meaning s) ⌝ }
+    ensures { λ r. ⌜ heldBy r ≡ meaning s ⌝ }
 {
     let o = s.operation;
     let c = coded(o);
@@ -77,88 +80,43 @@ pub fn flat(s: State) -> VjState
     }
 }
 
-// The operation that a code names, with its progress. `known` says whether it names one; what `operation` holds otherwise means nothing.
-pub struct Named {
-    pub known: bool,
-    pub operation: Operation,
-}
-
-// A code past 4 names no operation.
-fn name_of(code: u8, progress: u64) -> Named
-    ensures { λ r. ⌜ namedBy r ≡ operationOf code progress ⌝ }
+// The operation that a code names, with its progress.
+fn name_of(code: u8, progress: u64) -> Operation
+    ensures { λ r. ⌜ r ≡ operationOf code progress ⌝ }
 {
     let k = progress as usize;
     if code == 0 {
-        return Named {
-            known: true,
-            operation: Operation::Idle,
-        };
+        return Operation::Idle;
     }
     if code == 1 {
-        return Named {
-            known: true,
-            operation: Operation::Append(k),
-        };
+        return Operation::Append(k);
     }
     if code == 2 {
-        return Named {
-            known: true,
-            operation: Operation::Commit(k),
-        };
+        return Operation::Commit(k);
     }
     if code == 3 {
-        return Named {
-            known: true,
-            operation: Operation::Collect(k),
-        };
+        return Operation::Collect(k);
     }
     if code == 4 {
-        return Named {
-            known: true,
-            operation: Operation::Format(k),
-        };
+        return Operation::Format(k);
     }
-    Named {
-        known: false,
-        operation: Operation::Idle,
-    }
-}
-
-// A state that was lent in its flat form. `known` says whether its code names an operation; what `state` holds otherwise means nothing.
-pub struct Lent {
-    pub known: bool,
-    pub state: State,
+    Operation::Unnamed
 }
 
 // A flat state as the library has it.
-pub fn unflat(f: VjState) -> Lent
-    ensures { λ r. ⌜ heldIn r ≡ heldBy f ⌝ }
+pub fn unflat(f: VjState) -> State
+    ensures { λ r. ⌜ meaning r ≡ heldBy f ⌝ }
 {
-    let n = name_of(f.operation, f.progress);
+    let operation = name_of(f.operation, f.progress);
     let head = f.head;
     let index = f.index;
     let group = f.group;
     let pages = f.pages;
-    let operation = n.operation;
-    let state = State {
+    State {
         head: head,
         index: index,
         group: group,
         pages: pages,
         operation: operation,
-    };
-    Lent {
-        known: n.known,
-        state: state,
     }
-}
-
-// The number where no operation is named: the length refuses first, then the state.
-pub fn unknown_number(n: usize) -> u8
-    ensures { λ r. ⌜ r ≡ numberOf (unknownNeeds n) ⌝ }
-{
-    if !blocks::size_ok(n) {
-        return 1;
-    }
-    7
 }

@@ -19,11 +19,10 @@ use Rattle.flash.specs.Medium.{views, pageAt}
 use Rattle.nodes.specs.Nodes.{wordAt, pickBelow}
 use Rattle.blocks.specs.Blocks.{available}
 use Rattle.page.specs.Pages.{View}
+use Rattle.state.specs.declared.State.{State}
 use Rattle.state.specs.State.{Held, meaning, stateNeeds}
 use Rattle.flat.specs.declared.VjState.{VjState}
-use Rattle.flat.specs.declared.Lent.{Lent}
-use Rattle.flat.specs.Flat.{heldBy, heldIn, unknownNeeds}
-use Rattle.flat.proofs.Laws.{unknown-says, unknown-refuses, lent-none, lent-some}
+use Rattle.flat.specs.Flat.{heldBy}
 use Rattle.recovery.specs.Recovery.{Recovery, refused, recovered, recover, recoverNeeds, changesOf, logOf, groups, recoveredState}
 use Rattle.recover.specs.declared.Recovered.{Recovered}
 use Rattle.recover.specs.Told as told
@@ -38,7 +37,7 @@ use Rattle.read.specs.declared.Supplied.{Supplied}
 use Rattle.read.specs.declared.Supplied.the-variants as supplied
 use Rattle.read.specs.Answers.{logRead, openedOf, pickedOf, surveyedOf, suppliedOf}
 use Rattle.readings.specs.Readings.{LogRead, Answer, changes, unread, longEnough, filed, readInto, readLog, Opening, word, openingNeeds, openingOf, placeOf, Pick, nothing, block, pickedBlock, pickOf, Survey, counts, surveyOf, Supply, pages, availableOf}
-use Rattle.journal_c.specs.Flat.{Found, found, stateIn, foundBy, answerBy, logBy, IsPage, openingLent, openingBy, pickLent, pickBy, surveyLent, joined, Joined, joinedIn, surveyBy, supplyLent, supplyBy}
+use Rattle.journal_c.specs.Flat.{Found, found, foundBy, answerBy, logBy, IsPage, openingBy, pickBy, joined, Joined, joinedIn, surveyBy, supplyBy}
 
 -- ---- recovery
 
@@ -52,13 +51,13 @@ unfolding short tell found
 short-tell (refused n) = refl
 short-tell (recovered log s) = refl
 
-short-told : (m : List ℕ) (r : Recovered) (f : VjState) → heldBy f ≡ some (meaning (r .state)) → foundBy (record { number = r .number; state = f }) ≡ some (short (told.told m r))
-unfolding short told.told foundBy stateIn
+short-told : (m : List ℕ) (r : Recovered) (f : VjState) → heldBy f ≡ meaning (r .state) → foundBy (record { number = r .number; state = f }) ≡ short (told.told m r)
+unfolding short told.told foundBy
 short-told m r f e = by-cases (eqb (r .number) 0) (λ h. rw (h, e)) (λ h. rw h)
 
-pub found-is : (m : List ℕ) (r : Recovered) (f : VjState) → Tells m r (tell (recover (length m) (views m))) → heldBy f ≡ some (meaning (r .state))
-    → foundBy (record { number = r .number; state = f }) ≡ some (found (recover (length m) (views m)))
-found-is m r f t e = short-told m r f e ∙ ap (λ u. some (short u)) (t .is) ∙ ap some (short-tell (recover (length m) (views m)))
+pub found-is : (m : List ℕ) (r : Recovered) (f : VjState) → Tells m r (tell (recover (length m) (views m))) → heldBy f ≡ meaning (r .state)
+    → foundBy (record { number = r .number; state = f }) ≡ found (recover (length m) (views m))
+found-is m r f t e = short-told m r f e ∙ ap short (t .is) ∙ short-tell (recover (length m) (views m))
 
 -- ---- no condition has the number 0
 
@@ -126,14 +125,6 @@ opening-word : (w : ℕ) → openingBy (record { number = 0; word = w }) ≡ wor
 unfolding openingBy
 opening-word w = refl
 
-opening-none : (n : ℕ) (v : List View) (valve : ℕ) → openingLent n v none valve ≡ Opening.turnedBack (numberOf (unknownNeeds n))
-unfolding openingLent
-opening-none n v valve = unknown-refuses Opening.turnedBack n (word 0)
-
-opening-some : (n : ℕ) (v : List View) (s : Held) (valve : ℕ) → openingLent n v (some s) valve ≡ openingOf n v s valve
-unfolding openingLent
-opening-some n v s valve = refl
-
 opening-says : (n : ℕ) (v : List View) (s : Held) (valve : ℕ) → Says Opening.turnedBack (openingOf n v s valve)
 unfolding openingOf numbered
 opening-says n v s valve =
@@ -141,25 +132,17 @@ opening-says n v s valve =
     (λ j h k e. let z : j ≡ k = cc in omega arith)
     (λ k e. let z : _≡_ {A = ℕ} 0 1 = cc in absurd (omega arith))
 
-module _ (m : List ℕ) (f : VjState) (l : Lent) (e : heldIn l ≡ heldBy f) (valve : ℕ) where
-  pub opening-unknown : (u : ℕ) → not (l .known) ≡ true → u ≡ numberOf (unknownNeeds (length m)) → openingBy (record { number = u; word = 0 }) ≡ openingLent (length m) (views m) (heldBy f) valve
-  opening-unknown u q z =
-      ap (λ (k : ℕ). openingBy (record { number = k; word = 0 })) z
-      ∙ opening-turned (numberOf (unknownNeeds (length m))) 0 (unknown-says (length m))
-      ∙ sym (opening-none (length m) (views m) valve)
-      ∙ ap (λ (o : Option Held). openingLent (length m) (views m) o valve) (sym (lent-none f l e q))
+module _ (m : List ℕ) (f : VjState) (s : State) (e : meaning s ≡ heldBy f) (valve : ℕ) (r : Opened) (g : openedOf r ≡ openingOf (length m) (views m) (meaning s) valve) where
+  opening-lent : openedOf r ≡ openingOf (length m) (views m) (heldBy f) valve
+  opening-lent = g ∙ ap (λ (h : Held). openingOf (length m) (views m) h valve) e
 
-  module _ (q : not (l .known) ≡ false) (r : Opened) (g : openedOf r ≡ openingOf (length m) (views m) (meaning (l .state)) valve) where
-    opening-lent : openedOf r ≡ openingLent (length m) (views m) (heldBy f) valve
-    opening-lent = g ∙ sym (opening-some (length m) (views m) (meaning (l .state)) valve) ∙ ap (λ (o : Option Held). openingLent (length m) (views m) o valve) (sym (lent-some f l e q))
+  pub opening-refuses : (n : ℕ) → r ≡ opened.Refused n → openingBy (record { number = n; word = 0 }) ≡ openingOf (length m) (views m) (heldBy f) valve
+  opening-refuses n h =
+      let z : 1 ≤ n = opening-says (length m) (views m) (meaning s) valve n (sym g ∙ ap openedOf h) in
+      opening-turned n 0 z ∙ sym (ap openedOf h) ∙ opening-lent
 
-    pub opening-refuses : (n : ℕ) → r ≡ opened.Refused n → openingBy (record { number = n; word = 0 }) ≡ openingLent (length m) (views m) (heldBy f) valve
-    opening-refuses n h =
-        let z : 1 ≤ n = opening-says (length m) (views m) (meaning (l .state)) valve n (sym g ∙ ap openedOf h) in
-        opening-turned n 0 z ∙ sym (ap openedOf h) ∙ opening-lent
-
-    pub opening-tells : (w : ℕ) → r ≡ opened.Word w → openingBy (record { number = 0; word = w }) ≡ openingLent (length m) (views m) (heldBy f) valve
-    opening-tells w h = opening-word w ∙ sym (ap openedOf h) ∙ opening-lent
+  pub opening-tells : (w : ℕ) → r ≡ opened.Word w → openingBy (record { number = 0; word = w }) ≡ openingOf (length m) (views m) (heldBy f) valve
+  opening-tells w h = opening-word w ∙ sym (ap openedOf h) ∙ opening-lent
 
 -- ---- the picker
 
@@ -175,14 +158,6 @@ pick-by-block : (b : ℕ) → pickBy (record { number = 0; found = 1; block = b 
 unfolding pickBy
 pick-by-block b = refl
 
-pick-none : (n : ℕ) (v : List View) → pickLent n v none ≡ Pick.turnedBack (numberOf (unknownNeeds n))
-unfolding pickLent
-pick-none n v = unknown-refuses Pick.turnedBack n nothing
-
-pick-some : (n : ℕ) (v : List View) (s : Held) → pickLent n v (some s) ≡ pickOf n v s
-unfolding pickLent
-pick-some n v s = refl
-
 picked-says : (o : Option ℕ) → Says Pick.turnedBack (pickedBlock o)
 picked-says none k e = let z : _≡_ {A = ℕ} 0 1 = cc in absurd (omega arith)
 picked-says (some b) k e = let z : _≡_ {A = ℕ} 0 1 = cc in absurd (omega arith)
@@ -194,28 +169,20 @@ pick-says n v s =
     (λ j h k e. let z : j ≡ k = cc in omega arith)
     (picked-says (pickBelow v (s .head) (s .index) (s .head .blocks)))
 
-module _ (m : List ℕ) (f : VjState) (l : Lent) (e : heldIn l ≡ heldBy f) where
-  pub pick-unknown : (u : ℕ) → not (l .known) ≡ true → u ≡ numberOf (unknownNeeds (length m)) → pickBy (record { number = u; found = 0; block = 0 }) ≡ pickLent (length m) (views m) (heldBy f)
-  pick-unknown u q z =
-      ap (λ (k : ℕ). pickBy (record { number = k; found = 0; block = 0 })) z
-      ∙ pick-turned (numberOf (unknownNeeds (length m))) 0 0 (unknown-says (length m))
-      ∙ sym (pick-none (length m) (views m))
-      ∙ ap (λ (o : Option Held). pickLent (length m) (views m) o) (sym (lent-none f l e q))
+module _ (m : List ℕ) (f : VjState) (s : State) (e : meaning s ≡ heldBy f) (r : Picked) (g : pickedOf r ≡ pickOf (length m) (views m) (meaning s)) where
+  pick-lent : pickedOf r ≡ pickOf (length m) (views m) (heldBy f)
+  pick-lent = g ∙ ap (pickOf (length m) (views m)) e
 
-  module _ (q : not (l .known) ≡ false) (r : Picked) (g : pickedOf r ≡ pickOf (length m) (views m) (meaning (l .state))) where
-    pick-lent : pickedOf r ≡ pickLent (length m) (views m) (heldBy f)
-    pick-lent = g ∙ sym (pick-some (length m) (views m) (meaning (l .state))) ∙ ap (λ (o : Option Held). pickLent (length m) (views m) o) (sym (lent-some f l e q))
+  pub pick-refuses : (n : ℕ) → r ≡ picked.Refused n → pickBy (record { number = n; found = 0; block = 0 }) ≡ pickOf (length m) (views m) (heldBy f)
+  pick-refuses n h =
+      let z : 1 ≤ n = pick-says (length m) (views m) (meaning s) n (sym g ∙ ap pickedOf h) in
+      pick-turned n 0 0 z ∙ sym (ap pickedOf h) ∙ pick-lent
 
-    pub pick-refuses : (n : ℕ) → r ≡ picked.Refused n → pickBy (record { number = n; found = 0; block = 0 }) ≡ pickLent (length m) (views m) (heldBy f)
-    pick-refuses n h =
-        let z : 1 ≤ n = pick-says (length m) (views m) (meaning (l .state)) n (sym g ∙ ap pickedOf h) in
-        pick-turned n 0 0 z ∙ sym (ap pickedOf h) ∙ pick-lent
+  pub pick-nothing : r ≡ picked.Nothing → pickBy (record { number = 0; found = 0; block = 0 }) ≡ pickOf (length m) (views m) (heldBy f)
+  pick-nothing h = pick-by-none ∙ sym (ap pickedOf h) ∙ pick-lent
 
-    pub pick-nothing : r ≡ picked.Nothing → pickBy (record { number = 0; found = 0; block = 0 }) ≡ pickLent (length m) (views m) (heldBy f)
-    pick-nothing h = pick-by-none ∙ sym (ap pickedOf h) ∙ pick-lent
-
-    pub pick-tells : (b : ℕ) → r ≡ picked.Block b → pickBy (record { number = 0; found = 1; block = b }) ≡ pickLent (length m) (views m) (heldBy f)
-    pick-tells b h = pick-by-block b ∙ sym (ap pickedOf h) ∙ pick-lent
+  pub pick-tells : (b : ℕ) → r ≡ picked.Block b → pickBy (record { number = 0; found = 1; block = b }) ≡ pickOf (length m) (views m) (heldBy f)
+  pick-tells b h = pick-by-block b ∙ sym (ap pickedOf h) ∙ pick-lent
 
 -- ---- the survey
 
@@ -240,38 +207,17 @@ joined-end rows xs i h t =
     ext-getD 0 xs (table 48 (λ k. getD (getD rows (k / 3) []) (k % 3) 0)) (t .long ∙ sym (length-table (λ k. getD (getD rows (k / 3) []) (k % 3) 0) 0 48))
     (λ k l. t .so k (omega (arith, t .long)) ∙ sym (get-table (λ j. getD (getD rows (j / 3) []) (j % 3) 0) 0 48 k (omega (arith, t .long))))
 
-survey-turned : (n : ℕ) (xs : List ℕ) → 1 ≤ n → surveyBy (record { number = n; counts = xs }) ≡ Joined.turnedBack n
-unfolding surveyBy
-survey-turned n xs h = rw (ne-eqb n 0 (λ q. absurd (omega (arith, h, q))))
-
-survey-none : (n : ℕ) (v : List View) → joinedIn (surveyLent n v none) ≡ Joined.turnedBack (numberOf (unknownNeeds n))
-unfolding surveyLent joinedIn
-survey-none n v = ap joinedIn (unknown-refuses Survey.turnedBack n (counts []))
-
-survey-some : (n : ℕ) (v : List View) (s : Held) → surveyLent n v (some s) ≡ surveyOf n v s
-unfolding surveyLent
-survey-some n v s = refl
-
 survey-joined : (n : ℕ) (rows : List (List ℕ)) → surveyBy (record { number = n; counts = joined rows }) ≡ joinedIn (surveyedOf n rows)
 unfolding surveyBy joinedIn
 survey-joined n rows = by-cases (eqb n 0) (λ h. rw h) (λ h. rw h)
 
-module _ (m : List ℕ) (f : VjState) (l : Lent) (e : heldIn l ≡ heldBy f) where
-  pub survey-unknown : (u : ℕ) (xs : List ℕ) → not (l .known) ≡ true → u ≡ numberOf (unknownNeeds (length m))
-      → surveyBy (record { number = u; counts = xs }) ≡ joinedIn (surveyLent (length m) (views m) (heldBy f))
-  survey-unknown u xs q z =
-      ap (λ (k : ℕ). surveyBy (record { number = k; counts = xs })) z
-      ∙ survey-turned (numberOf (unknownNeeds (length m))) xs (unknown-says (length m))
-      ∙ sym (survey-none (length m) (views m))
-      ∙ ap (λ (o : Option Held). joinedIn (surveyLent (length m) (views m) o)) (sym (lent-none f l e q))
-
-  pub survey-tells : (n : ℕ) (rows : List (List ℕ)) (xs : List ℕ) → not (l .known) ≡ false → surveyedOf n rows ≡ surveyOf (length m) (views m) (meaning (l .state)) → xs ≡ joined rows
-      → surveyBy (record { number = n; counts = xs }) ≡ joinedIn (surveyLent (length m) (views m) (heldBy f))
-  survey-tells n rows xs q g z =
-      ap (λ (x : List ℕ). surveyBy (record { number = n; counts = x })) z
-      ∙ survey-joined n rows
-      ∙ ap joinedIn (g ∙ sym (survey-some (length m) (views m) (meaning (l .state))))
-      ∙ ap (λ (o : Option Held). joinedIn (surveyLent (length m) (views m) o)) (sym (lent-some f l e q))
+pub survey-tells : (m : List ℕ) (f : VjState) (s : State) (n : ℕ) (rows : List (List ℕ)) (xs : List ℕ) → meaning s ≡ heldBy f
+    → surveyedOf n rows ≡ surveyOf (length m) (views m) (meaning s) → xs ≡ joined rows
+    → surveyBy (record { number = n; counts = xs }) ≡ joinedIn (surveyOf (length m) (views m) (heldBy f))
+survey-tells m f s n rows xs e g z =
+    ap (λ (x : List ℕ). surveyBy (record { number = n; counts = x })) z
+    ∙ survey-joined n rows
+    ∙ ap joinedIn (g ∙ ap (surveyOf (length m) (views m)) e)
 
 -- ---- available pages
 
@@ -283,14 +229,6 @@ supply-pages : (k : ℕ) → supplyBy (record { number = 0; pages = k }) ≡ pag
 unfolding supplyBy
 supply-pages k = refl
 
-supply-none : (n : ℕ) (v : List View) → supplyLent n v none ≡ Supply.turnedBack (numberOf (unknownNeeds n))
-unfolding supplyLent
-supply-none n v = unknown-refuses Supply.turnedBack n (pages 0)
-
-supply-some : (n : ℕ) (v : List View) (s : Held) → supplyLent n v (some s) ≡ availableOf n v s
-unfolding supplyLent
-supply-some n v s = refl
-
 supply-says : (n : ℕ) (v : List View) (s : Held) → Says Supply.turnedBack (availableOf n v s)
 unfolding availableOf numbered
 supply-says n v s =
@@ -298,22 +236,14 @@ supply-says n v s =
     (λ j h k e. let z : j ≡ k = cc in omega arith)
     (λ k e. let z : _≡_ {A = ℕ} 0 1 = cc in absurd (omega arith))
 
-module _ (m : List ℕ) (f : VjState) (l : Lent) (e : heldIn l ≡ heldBy f) where
-  pub supply-unknown : (u : ℕ) → not (l .known) ≡ true → u ≡ numberOf (unknownNeeds (length m)) → supplyBy (record { number = u; pages = 0 }) ≡ supplyLent (length m) (views m) (heldBy f)
-  supply-unknown u q z =
-      ap (λ (k : ℕ). supplyBy (record { number = k; pages = 0 })) z
-      ∙ supply-turned (numberOf (unknownNeeds (length m))) 0 (unknown-says (length m))
-      ∙ sym (supply-none (length m) (views m))
-      ∙ ap (λ (o : Option Held). supplyLent (length m) (views m) o) (sym (lent-none f l e q))
+module _ (m : List ℕ) (f : VjState) (s : State) (e : meaning s ≡ heldBy f) (r : Supplied) (g : suppliedOf r ≡ availableOf (length m) (views m) (meaning s)) (n : ℕ) where
+  supply-lent : suppliedOf r ≡ availableOf (length m) (views m) (heldBy f)
+  supply-lent = g ∙ ap (availableOf (length m) (views m)) e
 
-  module _ (q : not (l .known) ≡ false) (r : Supplied) (g : suppliedOf r ≡ availableOf (length m) (views m) (meaning (l .state))) (n : ℕ) where
-    supply-lent : suppliedOf r ≡ supplyLent (length m) (views m) (heldBy f)
-    supply-lent = g ∙ sym (supply-some (length m) (views m) (meaning (l .state))) ∙ ap (λ (o : Option Held). supplyLent (length m) (views m) o) (sym (lent-some f l e q))
+  pub supply-refuses : r ≡ supplied.Refused n → supplyBy (record { number = n; pages = 0 }) ≡ availableOf (length m) (views m) (heldBy f)
+  supply-refuses h =
+      let z : 1 ≤ n = supply-says (length m) (views m) (meaning s) n (sym g ∙ ap suppliedOf h) in
+      supply-turned n 0 z ∙ sym (ap suppliedOf h) ∙ supply-lent
 
-    pub supply-refuses : r ≡ supplied.Refused n → supplyBy (record { number = n; pages = 0 }) ≡ supplyLent (length m) (views m) (heldBy f)
-    supply-refuses h =
-        let z : 1 ≤ n = supply-says (length m) (views m) (meaning (l .state)) n (sym g ∙ ap suppliedOf h) in
-        supply-turned n 0 z ∙ sym (ap suppliedOf h) ∙ supply-lent
-
-    pub supply-tells : r ≡ supplied.Pages n → supplyBy (record { number = 0; pages = n }) ≡ supplyLent (length m) (views m) (heldBy f)
-    supply-tells h = supply-pages n ∙ sym (ap suppliedOf h) ∙ supply-lent
+  pub supply-tells : r ≡ supplied.Pages n → supplyBy (record { number = 0; pages = n }) ≡ availableOf (length m) (views m) (heldBy f)
+  supply-tells h = supply-pages n ∙ sym (ap suppliedOf h) ∙ supply-lent

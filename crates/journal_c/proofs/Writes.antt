@@ -9,7 +9,6 @@ use lib.ListN.{length}
 use lib.Dec.{eqb, ltb}
 use borrow.Author.Tests.{ne-eqb}
 use mir.Val.{boolByte}
-use Rattle.lists.specs.Needs.{numberOf}
 use Rattle.lists.proofs.Laws.{by-cases, numbered}
 use Rattle.flash.specs.Medium.{views}
 use Rattle.page.specs.Pages.{Page, View}
@@ -17,11 +16,9 @@ use Rattle.blocks.specs.declared.Head.{Head}
 use Rattle.nodes.specs.Nodes.{live}
 use Rattle.lists.specs.Cells.{Place}
 use Rattle.state.specs.declared.State.{State}
-use Rattle.state.specs.State.{Pending, idle, append, commit, collect, format, Held, meaning}
+use Rattle.state.specs.State.{Pending, idle, append, commit, collect, format, unnamed, Held, meaning}
 use Rattle.flat.specs.declared.VjState.{VjState}
-use Rattle.flat.specs.declared.Lent.{Lent}
-use Rattle.flat.specs.Flat.{heldBy, heldIn, unknownNeeds}
-use Rattle.flat.proofs.Laws.{unknown-says, lent-none, lent-some}
+use Rattle.flat.specs.Flat.{heldBy}
 use Rattle.calls.specs.Calls.{Call, refused, begun, starting, zip, appendNeeds, appendOf, commitNeeds, commitOf, collectNeeds, collectOf, formatOf}
 use Rattle.step.specs.Step as step
 use Rattle.step.specs.Step.{Step, program, erase, pageNeeds, programming, appendStep, commitStep, moveStep, collectStep, formatStep, due, stepOf, mediumAfter}
@@ -33,14 +30,14 @@ use Rattle.advance.specs.declared.Stepped.{Stepped}
 use Rattle.advance.specs.Outcomes.{Outcome, done, doneOf, performed, Steps}
 use Rattle.journal_c.specs.declared.VjStepped.{VjStepped}
 use Rattle.journal_c.specs.declared.VjBegun.{VjBegun}
-use Rattle.journal_c.specs.Writes.{asked, FlatTold, readyIn, toldBy, begunBy, answeredAs, givenFlat, callLent, appendLent, commitLent, collectLent, withoutState, formattedBy, FlatDone, FlatOutcome, touchedBy, steppedBy, outcomeBy, reportedAs, doneFlat, performedFlat, stepLent}
+use Rattle.journal_c.specs.Writes.{FlatTold, toldBy, begunBy, answeredAs, givenFlat, withoutState, formattedBy, FlatDone, FlatOutcome, touchedBy, steppedBy, outcomeBy, reportedAs, doneFlat, performedFlat}
 use Rattle.journal_c.proofs.Laws.{by-number, Says}
 
 -- ---- the answer of a call that begins an operation
 
 module _ (f : VjState) (b : Begun) where
-  pub answered-ready : (g : VjState) → heldBy g ≡ some (meaning (b .state)) → b .answer ≡ Ready → begunBy (record { number = 0; state = g }) ≡ answeredAs f (toldOf b)
-  unfolding begunBy toldBy readyIn answeredAs
+  pub answered-ready : (g : VjState) → heldBy g ≡ meaning (b .state) → b .answer ≡ Ready → begunBy (record { number = 0; state = g }) ≡ answeredAs f (toldOf b)
+  unfolding begunBy toldBy answeredAs
   answered-ready g e q = rw (e, q)
 
   pub answered-refused : (n : ℕ) → b .answer ≡ Refused n → begunBy (record { number = n; state = f }) ≡ answeredAs f (toldOf b)
@@ -70,63 +67,28 @@ module _ (n : ℕ) (v : List View) (s : Held) where
 
 -- ---- a call that takes a flat state
 
-told-refused : (n : ℕ) (f : VjState) → 1 ≤ n → toldBy n f ≡ some (FlatTold.turnedBack n f)
+told-refused : (n : ℕ) (f : VjState) → 1 ≤ n → toldBy n f ≡ FlatTold.turnedBack n f
 unfolding toldBy
 told-refused n f h = rw (ne-eqb n 0 (λ q. absurd (omega (arith, h, q))))
 
-asked-none : {A : Type 0} (refuse : ℕ → A) (n : ℕ) (c : Held → A) → asked refuse n none c ≡ refuse (numberOf (unknownNeeds n))
-unfolding asked
-asked-none refuse n c = refl
-
-asked-some : {A : Type 0} (refuse : ℕ → A) (n : ℕ) (s : Held) (c : Held → A) → asked refuse n (some s) c ≡ c s
-unfolding asked
-asked-some refuse n s c = refl
-
 -- what the library tells of a call is what the flat answer must tell
-answered-told : (f : VjState) (s : State) (c : Call) → Says refused c → answeredAs f (given s c) ≡ some (givenFlat f c)
+answered-told : (f : VjState) (s : State) (c : Call) → Says refused c → answeredAs f (given s c) ≡ givenFlat f c
 unfolding answeredAs givenFlat
 answered-told f s (refused n) h = told-refused n f (h n refl)
 answered-told f s (begun x) h = refl
 
-module _ (n : ℕ) (v : List View) (f : VjState) (l : Lent) (e : heldIn l ≡ heldBy f) where
-  module _ (u : ℕ) (q : not (l .known) ≡ true) (z : u ≡ numberOf (unknownNeeds n)) where
-    call-unknown : (c : Held → Call) → begunBy (record { number = u; state = f }) ≡ some (givenFlat f (callLent n (heldBy f) c))
-    unfolding begunBy givenFlat
-    call-unknown c =
-        ap (λ (k : ℕ). toldBy k f) z
-        ∙ told-refused (numberOf (unknownNeeds n)) f (unknown-says n)
-        ∙ ap (λ (x : Call). some (givenFlat f x)) (sym (ap (λ (o : Option Held). callLent n o c) (lent-none f l e q) ∙ asked-none refused n c))
+module _ (n : ℕ) (v : List View) (f : VjState) (s : State) (e : meaning s ≡ heldBy f) (b : Begun) (r : VjBegun) (a : begunBy r ≡ answeredAs f (toldOf b)) where
+  call-tells : (c : Held → Call) → Says refused (c (meaning s)) → toldOf b ≡ given s (c (meaning s)) → begunBy r ≡ givenFlat f (c (heldBy f))
+  call-tells c h t = a ∙ ap (answeredAs f) t ∙ answered-told f s (c (meaning s)) h ∙ ap (λ (x : Held). givenFlat f (c x)) e
 
-    pub append-unknown : (ks ws : List ℕ) → begunBy (record { number = u; state = f }) ≡ some (givenFlat f (appendLent n v (heldBy f) ks ws))
-    unfolding appendLent
-    append-unknown ks ws = call-unknown (λ h. appendOf n v h ks ws)
+  pub append-tells : (ks ws : List ℕ) → toldOf b ≡ given s (appendOf n v (meaning s) ks ws) → begunBy r ≡ givenFlat f (appendOf n v (heldBy f) ks ws)
+  append-tells ks ws t = call-tells (λ h. appendOf n v h ks ws) (append-says n v (meaning s) ks ws) t
 
-    pub commit-unknown : begunBy (record { number = u; state = f }) ≡ some (givenFlat f (commitLent n v (heldBy f)))
-    unfolding commitLent
-    commit-unknown = call-unknown (λ h. commitOf n v h)
+  pub commit-tells : toldOf b ≡ given s (commitOf n v (meaning s)) → begunBy r ≡ givenFlat f (commitOf n v (heldBy f))
+  commit-tells t = call-tells (λ h. commitOf n v h) (commit-says n v (meaning s)) t
 
-    pub collect-unknown : (b : ℕ) → begunBy (record { number = u; state = f }) ≡ some (givenFlat f (collectLent n v (heldBy f) b))
-    unfolding collectLent
-    collect-unknown b = call-unknown (λ h. collectOf n v h b)
-
-  module _ (q : not (l .known) ≡ false) (b : Begun) (r : VjBegun) (a : begunBy r ≡ answeredAs f (toldOf b)) where
-    call-tells : (c : Held → Call) → Says refused (c (meaning (l .state))) → toldOf b ≡ given (l .state) (c (meaning (l .state)))
-        → begunBy r ≡ some (givenFlat f (callLent n (heldBy f) c))
-    call-tells c h t =
-        a ∙ ap (answeredAs f) t ∙ answered-told f (l .state) (c (meaning (l .state))) h
-        ∙ ap (λ (x : Call). some (givenFlat f x)) (sym (ap (λ (o : Option Held). callLent n o c) (lent-some f l e q) ∙ asked-some refused n (meaning (l .state)) c))
-
-    pub append-tells : (ks ws : List ℕ) → toldOf b ≡ given (l .state) (appendOf n v (meaning (l .state)) ks ws) → begunBy r ≡ some (givenFlat f (appendLent n v (heldBy f) ks ws))
-    unfolding appendLent
-    append-tells ks ws t = call-tells (λ h. appendOf n v h ks ws) (append-says n v (meaning (l .state)) ks ws) t
-
-    pub commit-tells : toldOf b ≡ given (l .state) (commitOf n v (meaning (l .state))) → begunBy r ≡ some (givenFlat f (commitLent n v (heldBy f)))
-    unfolding commitLent
-    commit-tells t = call-tells (λ h. commitOf n v h) (commit-says n v (meaning (l .state))) t
-
-    pub collect-tells : (k : ℕ) → toldOf b ≡ given (l .state) (collectOf n v (meaning (l .state)) k) → begunBy r ≡ some (givenFlat f (collectLent n v (heldBy f) k))
-    unfolding collectLent
-    collect-tells k t = call-tells (λ h. collectOf n v h k) (collect-says n v (meaning (l .state)) k) t
+  pub collect-tells : (k : ℕ) → toldOf b ≡ given s (collectOf n v (meaning s) k) → begunBy r ≡ givenFlat f (collectOf n v (heldBy f) k)
+  collect-tells k t = call-tells (λ h. collectOf n v h k) (collect-says n v (meaning s) k) t
 
 -- ---- format
 
@@ -138,12 +100,12 @@ format-number : (n : ℕ) (c : Call) → Says refused c → Formatted.turnedBack
 format-number n (refused k) h e = let z : n ≡ k = cc in let y = h k refl in omega arith
 format-number n (begun x) h e = let z : _≡_ {A = ℕ} 0 1 = cc in absurd (omega arith)
 
-format-told : (f : VjState) (t : Told) (c : Call) → Says refused c → formatted t ≡ asFormatted c → withoutState (answeredAs f t) ≡ some (asFormatted c)
+format-told : (f : VjState) (t : Told) (c : Call) → Says refused c → formatted t ≡ asFormatted c → withoutState (answeredAs f t) ≡ asFormatted c
 unfolding withoutState answeredAs
-format-told f (Told.turnedBack n s) c h e = ap withoutState (told-refused n f (format-number n c h e)) ∙ ap some e
-format-told f (Told.ready x) c h e = ap some e
+format-told f (Told.turnedBack n s) c h e = ap withoutState (told-refused n f (format-number n c h e)) ∙ e
+format-told f (Told.ready x) c h e = e
 
-pub format-tells : (n : ℕ) (f : VjState) (b : Begun) (r : VjBegun) → formattedOf b ≡ asFormatted (formatOf n) → begunBy r ≡ answeredAs f (toldOf b) → formattedBy r ≡ some (asFormatted (formatOf n))
+pub format-tells : (n : ℕ) (f : VjState) (b : Begun) (r : VjBegun) → formattedOf b ≡ asFormatted (formatOf n) → begunBy r ≡ answeredAs f (toldOf b) → formattedBy r ≡ asFormatted (formatOf n)
 format-tells n f b r e a = ap withoutState a ∙ format-told f (toldOf b) (formatOf n) (format-says n) e
 
 -- ---- the answer of a step
@@ -156,13 +118,9 @@ module _ (f : VjState) (t : Stepped) where
   pub reported-refused : (n : ℕ) → t .report ≡ report.Refused n
       → steppedBy (record { number = n; touched = 0; finished = 0; at = 0; state = f }) ≡ reportedAs f (doneOf (t .report) (t .state))
   unfolding steppedBy reportedAs
-  reported-refused n q = rw q (by-cases (eqb n 0) (λ h. rw h (untouched (heldBy f))) (λ h. rw h))
-    where
-      untouched : (o : Option Held) → touchedBy 0 0 false o ≡ none
-      untouched none = unfold touchedBy in refl
-      untouched (some h) = unfold touchedBy in refl
+  reported-refused n q = rw q (by-cases (eqb n 0) (λ h. rw h (unfold touchedBy in refl)) (λ h. rw h))
 
-  module _ (g : VjState) (e : heldBy g ≡ some (meaning (t .state))) (k : ℕ) (d : Bool) where
+  module _ (g : VjState) (e : heldBy g ≡ meaning (t .state)) (k : ℕ) (d : Bool) where
     pub reported-page : t .report ≡ report.Programmed k d
         → steppedBy (record { number = 0; touched = 1; finished = boolByte d; at = k; state = g }) ≡ reportedAs f (doneOf (t .report) (t .state))
     unfolding steppedBy touchedBy reportedAs
@@ -198,6 +156,7 @@ due-says v s idle = step-refused-says 9 (omega arith)
 due-says v s (append es ps) = program-says v (s .head) _ _ _ _
 due-says v s (commit k) = program-says v (s .head) _ _ _ _
 due-says v s (collect b) = collect-step-says v s b (live (s .index) b)
+due-says v s unnamed = step-refused-says 7 (omega arith)
 due-says v s (format n) =
     by-cases (ltb n (s .head .blocks)) (λ h. rw h (erase-says n (starting s (format (suc n))) false)) (λ h. rw h (program-says v (s .head) _ _ _ true))
 
@@ -214,28 +173,15 @@ reported-done f s (step.refused n) h = let z = h n refl in rw (ne-eqb n 0 (λ q.
 reported-done f s (program p pg x b) h = refl
 reported-done f s (erase k x b) h = refl
 
-stopped : (n : ℕ) (f : VjState) → 1 ≤ n → steppedBy (record { number = n; touched = 0; finished = 0; at = 0; state = f }) ≡ some (FlatDone.turnedBack n f)
-unfolding steppedBy
-stopped n f h = rw (ne-eqb n 0 (λ q. absurd (omega (arith, h, q))))
-
 same-outcome : (x y : Option FlatDone) (m m′ : List ℕ) → x ≡ y → m ≡ m′ → _≡_ {A = FlatOutcome} (record { done = x; medium = m }) (record { done = y; medium = m′ })
 same-outcome x y m m′ p q = rw (p, q)
 
-module _ (m : List ℕ) (f : VjState) (l : Lent) (e : heldIn l ≡ heldBy f) where
-  pub step-unknown : (u : ℕ) → not (l .known) ≡ true → u ≡ numberOf (unknownNeeds (length m))
-      → outcomeBy (record { number = u; touched = 0; finished = 0; at = 0; state = f }) m ≡ performedFlat m f (stepLent (length m) (views m) (heldBy f))
-  unfolding performedFlat doneFlat mediumAfter stepLent
-  step-unknown u q z =
-      same-outcome _ (some (FlatDone.turnedBack u f)) m m (stopped u f (omega (arith, z, unknown-says (length m)))) refl
-      ∙ ap (λ (k : ℕ). performedFlat m f (step.refused k)) z
-      ∙ ap (performedFlat m f) (sym (ap (λ (o : Option Held). stepLent (length m) (views m) o) (lent-none f l e q) ∙ asked-none step.refused (length m) (stepOf (length m) (views m))))
-
-  pub step-tells : (m′ : List ℕ) (t : Stepped) (r : VjStepped) → not (l .known) ≡ false → Steps m (l .state) t m′ → steppedBy r ≡ reportedAs f (doneOf (t .report) (t .state))
-      → outcomeBy r m′ ≡ performedFlat m f (stepLent (length m) (views m) (heldBy f))
-  unfolding performed performedFlat stepLent
-  step-tells m′ t r q d a =
-      let did = stepOf (length m) (views m) (meaning (l .state)) in
-      same-outcome (steppedBy r) (some (doneFlat f did)) m′ (mediumAfter m did)
-      (a ∙ ap (λ (o : Outcome). reportedAs f (o .done)) d ∙ reported-done f (l .state) did (step-says (length m) (views m) (meaning (l .state))))
-      (ap (λ (o : Outcome). o .medium) d)
-      ∙ ap (performedFlat m f) (sym (ap (λ (o : Option Held). stepLent (length m) (views m) o) (lent-some f l e q) ∙ asked-some step.refused (length m) (meaning (l .state)) (stepOf (length m) (views m))))
+pub step-tells : (m : List ℕ) (f : VjState) (s : State) (m′ : List ℕ) (t : Stepped) (r : VjStepped) → meaning s ≡ heldBy f → Steps m s t m′
+    → steppedBy r ≡ reportedAs f (doneOf (t .report) (t .state)) → outcomeBy r m′ ≡ performedFlat m f (stepOf (length m) (views m) (heldBy f))
+unfolding performed performedFlat
+step-tells m f s m′ t r e d a =
+    let did = stepOf (length m) (views m) (meaning s) in
+    same-outcome (steppedBy r) (some (doneFlat f did)) m′ (mediumAfter m did)
+    (a ∙ ap (λ (o : Outcome). reportedAs f (o .done)) d ∙ reported-done f s did (step-says (length m) (views m) (meaning s)))
+    (ap (λ (o : Outcome). o .medium) d)
+    ∙ ap (λ (h : Held). performedFlat m f (stepOf (length m) (views m) h)) e

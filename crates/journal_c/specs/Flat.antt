@@ -1,20 +1,17 @@
 -- What the answers of the readings say in their flat structs.
 use mathlib.Core.Path.{_≡_}
 use mathlib.Core.Bool.{cond}
-use mathlib.Core.Option.{Option, none, some}
 use mathlib.Core.List.{List, []}
 use Prim.Native.Nat.{ℕ, _+_, _*_, _/_, _%_}
 use lib.ListN.{length, getD}
 use lib.Dec.{eqb, leb}
 use Rattle.lists.specs.Lists.{table}
-use Rattle.lists.specs.Needs.{checked}
 use Rattle.codec.specs.Codec.{part}
-use Rattle.page.specs.Pages.{View}
 use Rattle.flash.specs.Medium.{pageAt}
 use Rattle.state.specs.State.{Held}
-use Rattle.flat.specs.Flat.{heldBy, unknownNeeds}
+use Rattle.flat.specs.Flat.{heldBy}
 use Rattle.recovery.specs.Recovery.{Recovery, refused, recovered}
-use Rattle.readings.specs.Readings.{LogRead, Answer, changes, Opening, word, openingOf, Pick, nothing, block, pickOf, Survey, counts, surveyOf, Supply, pages, availableOf}
+use Rattle.readings.specs.Readings.{LogRead, Answer, changes, Opening, word, Pick, nothing, block, Survey, counts, Supply, pages}
 use Rattle.journal_c.specs.declared.VjRecovered.{VjRecovered}
 use Rattle.journal_c.specs.declared.VjCount.{VjCount}
 use Rattle.journal_c.specs.declared.VjPart.{VjPart}
@@ -34,13 +31,9 @@ unfoldable pub found : Recovery → Found
 found (refused n) = turnedBack n
 found (recovered log s) = state s
 
-unfoldable pub stateIn : Option Held → Option Found
-stateIn none = none
-stateIn (some s) = some (state s)
-
 -- what the call's answer says
-unfoldable pub foundBy : VjRecovered → Option Found
-foundBy r = cond (eqb (r .number) 0) (stateIn (heldBy (r .state))) (some (turnedBack (r .number)))
+unfoldable pub foundBy : VjRecovered → Found
+foundBy r = cond (eqb (r .number) 0) (state (heldBy (r .state))) (turnedBack (r .number))
 
 -- ---- the log
 
@@ -63,27 +56,14 @@ pub record IsPage (m : List ℕ) (p : ℕ) (r : VjPart) : Type 0 where
 -- ---- the readings of a lent state
 
 -- the opening of a valve
-unfoldable pub openingLent : ℕ → List View → Option Held → ℕ → Opening
-openingLent n v none valve = checked Opening.turnedBack (unknownNeeds n) (word 0)
-openingLent n v (some s) valve = openingOf n v s valve
-
 unfoldable pub openingBy : VjWord → Opening
 openingBy r = cond (eqb (r .number) 0) (word (r .word)) (Opening.turnedBack (r .number))
 
 -- the picker; found is 1 where a block is picked
-unfoldable pub pickLent : ℕ → List View → Option Held → Pick
-pickLent n v none = checked Pick.turnedBack (unknownNeeds n) nothing
-pickLent n v (some s) = pickOf n v s
-
 unfoldable pub pickBy : VjPick → Pick
 pickBy r = cond (eqb (r .number) 0) (cond (eqb (r .found) 1) (block (r .block)) nothing) (Pick.turnedBack (r .number))
 
--- the survey
-unfoldable pub surveyLent : ℕ → List View → Option Held → Survey
-surveyLent n v none = checked Survey.turnedBack (unknownNeeds n) (counts [])
-surveyLent n v (some s) = surveyOf n v s
-
--- sixteen rows of three counts, one row after another
+-- the survey: sixteen rows of three counts, one row after another
 unfoldable pub joined : List (List ℕ) → List ℕ
 joined rows = table 48 (λ i. getD (getD rows (i / 3) []) (i % 3) 0)
 
@@ -99,9 +79,5 @@ unfoldable pub surveyBy : VjSurvey → Joined
 surveyBy r = cond (eqb (r .number) 0) (inOne (r .counts)) (Joined.turnedBack (r .number))
 
 -- available pages
-unfoldable pub supplyLent : ℕ → List View → Option Held → Supply
-supplyLent n v none = checked Supply.turnedBack (unknownNeeds n) (pages 0)
-supplyLent n v (some s) = availableOf n v s
-
 unfoldable pub supplyBy : VjPages → Supply
 supplyBy r = cond (eqb (r .number) 0) (pages (r .pages)) (Supply.turnedBack (r .number))

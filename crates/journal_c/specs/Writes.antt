@@ -4,22 +4,15 @@ use mathlib.Core.Option.{Option, none, some}
 use mathlib.Core.List.{List}
 use Prim.Native.Nat.{ℕ}
 use lib.Dec.{eqb}
-use Rattle.lists.specs.Needs.{numberOf}
-use Rattle.page.specs.Pages.{View}
 use Rattle.state.specs.State.{Held}
 use Rattle.flat.specs.declared.VjState.{VjState}
-use Rattle.flat.specs.Flat.{heldBy, unknownNeeds}
-use Rattle.calls.specs.Calls.{Call, refused, begun, appendOf, commitOf, collectOf}
+use Rattle.flat.specs.Flat.{heldBy}
+use Rattle.calls.specs.Calls.{Call, refused, begun}
 use Rattle.begin.specs.Begun.{Told, Formatted}
-use Rattle.step.specs.Step.{Step, program, erase, mediumAfter, stepOf}
+use Rattle.step.specs.Step.{Step, program, erase, mediumAfter}
 use Rattle.advance.specs.Outcomes.{Done}
 use Rattle.journal_c.specs.declared.VjBegun.{VjBegun}
 use Rattle.journal_c.specs.declared.VjStepped.{VjStepped}
-
--- what a call comes to for a lent state; where its code names no operation, the refusal
-unfoldable pub asked : {A : Type 0} → (ℕ → A) → ℕ → Option Held → (Held → A) → A
-asked refuse n none f = refuse (numberOf (unknownNeeds n))
-asked refuse n (some s) f = f s
 
 -- ---- the calls that begin an operation
 
@@ -28,48 +21,30 @@ pub data FlatTold : Type 0 where
   turnedBack : ℕ → VjState → FlatTold
   ready : Held → FlatTold
 
-unfoldable pub readyIn : Option Held → Option FlatTold
-readyIn none = none
-readyIn (some h) = some (ready h)
-
 -- what a number and a flat state say: 0 and a state that is ready, or a refusal
-unfoldable pub toldBy : ℕ → VjState → Option FlatTold
-toldBy n f = cond (eqb n 0) (readyIn (heldBy f)) (some (turnedBack n f))
+unfoldable pub toldBy : ℕ → VjState → FlatTold
+toldBy n f = cond (eqb n 0) (ready (heldBy f)) (turnedBack n f)
 
 -- what the call's answer says
-unfoldable pub begunBy : VjBegun → Option FlatTold
+unfoldable pub begunBy : VjBegun → FlatTold
 begunBy r = toldBy (r .number) (r .state)
 
 -- what the library's answer comes to where this flat state was given
-unfoldable pub answeredAs : VjState → Told → Option FlatTold
+unfoldable pub answeredAs : VjState → Told → FlatTold
 answeredAs f (Told.turnedBack n s) = toldBy n f
-answeredAs f (Told.ready h) = some (ready h)
+answeredAs f (Told.ready h) = ready h
 
 -- what a call with flat state f must tell
 unfoldable pub givenFlat : VjState → Call → FlatTold
 givenFlat f (refused n) = turnedBack n f
 givenFlat f (begun h) = ready h
 
--- what it comes to: n is the medium's length in bytes, v its pages
-abbrev pub callLent : ℕ → Option Held → (Held → Call) → Call
-callLent n s f = asked refused n s f
-
-unfoldable pub appendLent : ℕ → List View → Option Held → List ℕ → List ℕ → Call
-appendLent n v s ks ws = callLent n s (λ h. appendOf n v h ks ws)
-
-unfoldable pub commitLent : ℕ → List View → Option Held → Call
-commitLent n v s = callLent n s (λ h. commitOf n v h)
-
-unfoldable pub collectLent : ℕ → List View → Option Held → ℕ → Call
-collectLent n v s b = callLent n s (λ h. collectOf n v h b)
-
 -- the same of vj_format, which takes no state: what a refusal hands back means nothing
-unfoldable pub withoutState : Option FlatTold → Option Formatted
-withoutState none = none
-withoutState (some (turnedBack n f)) = some (Formatted.turnedBack n)
-withoutState (some (ready h)) = some (Formatted.ready h)
+unfoldable pub withoutState : FlatTold → Formatted
+withoutState (turnedBack n f) = Formatted.turnedBack n
+withoutState (ready h) = Formatted.ready h
 
-abbrev pub formattedBy : VjBegun → Option Formatted
+abbrev pub formattedBy : VjBegun → Formatted
 formattedBy r = withoutState (begunBy r)
 
 -- ---- one device step
@@ -87,9 +62,8 @@ pub record FlatOutcome : Type 0 where
   pub medium : List ℕ
 
 -- what was touched: 1 a page, 2 a block; any other number says nothing
-unfoldable pub touchedBy : ℕ → ℕ → Bool → Option Held → Option FlatDone
-touchedBy touched at finished none = none
-touchedBy touched at finished (some h) =
+unfoldable pub touchedBy : ℕ → ℕ → Bool → Held → Option FlatDone
+touchedBy touched at finished h =
     cond (eqb touched 1) (some (page at finished h))
     (cond (eqb touched 2) (some (block at finished h)) none)
 
@@ -118,6 +92,3 @@ doneFlat f (erase b after finished) = block b finished after
 -- and on medium m
 unfoldable pub performedFlat : List ℕ → VjState → Step → FlatOutcome
 performedFlat m f t = record { done = some (doneFlat f t); medium = mediumAfter m t }
-
-unfoldable pub stepLent : ℕ → List View → Option Held → Step
-stepLent n v s = asked Step.refused n s (λ h. stepOf n v h)

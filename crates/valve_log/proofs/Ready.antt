@@ -24,7 +24,7 @@ use Rattle.index.specs.Index.{rising, assignAll}
 use Rattle.blocks.specs.declared.Head.{Head}
 use Rattle.blocks.specs.Blocks.{sizeOk, available, reachesBase, oldBlock, headWithRoom, pageDue, collectible}
 use Rattle.nodes.specs.Nodes.{nodeIn, wordFor, wordAt, inBlock, sound, words, live}
-use Rattle.state.specs.State.{Pending, idle, append, commit, collect, format, Held, held, headFit, placeFit, indexFit, groupOk, basePages, doneFit, pendingFit, fit, isIdle}
+use Rattle.state.specs.State.{Pending, idle, append, commit, collect, format, unnamed, Held, held, headFit, placeFit, indexFit, groupOk, basePages, doneFit, pendingFit, fit, isIdle}
 use Rattle.calls.specs.Calls.{starting, serialsFor}
 use Rattle.step.specs.Step.{Step, isLast, groupPage, moved, addressed, appended, committed, collected, programming, appendStep, commitStep, moveStep, collectStep, due, stepOf}
 use Rattle.valve_log.specs.History.{History}
@@ -44,6 +44,7 @@ Left v h index (append es ps) = pagesFor (length es) ≤ length ps + available v
 Left v h index (commit k) = basePages (length index) ≤ k + available v h
 Left v h index (collect b) = pagesFor (length (live index b)) ≤ available v h
 Left v h index (format n) = ⊥
+Left v h index unnamed = ⊥
 
 pub record Ready (v : List View) (s : Held) : Type 0 where
   pub size : length v ≡ 16 * s .head .blocks
@@ -383,6 +384,7 @@ module _ (v : List View) (s : Held) (h : History) (c : Coupled v (some s) h) (r 
   due-ready (commit k) e = commit-ready k e
   due-ready (collect b) e = collect-ready b e (live (s .index) b) refl
   due-ready (format n) e = absurd (unfold Left in (rw e at (r .left)))
+  due-ready unnamed e = absurd (unfold Left in (rw e at (r .left)))
 
   pub step-ready : (n : ℕ) → sizeOk n ≡ true → StepReady v (stepOf n v s)
   unfolding stepOf checked

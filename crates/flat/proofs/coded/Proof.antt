@@ -1,4 +1,4 @@
-use Rattle.flat.proofs.Laws.{code-idle, code-append, code-commit, code-collect, code-format}
+use Rattle.flat.proofs.Laws.{code-idle, code-append, code-commit, code-collect, code-format, code-unnamed}
 use borrow.Author.Needs.{needs}
 use Rattle.flat.proofs.coded.Statement.{statement}
 use Rattle.flat.proofs.coded.Tie as tie
@@ -18,6 +18,9 @@ enum-known-o-3 c = search needs
 enum-known-o-4 : tie.Need-enum-known-o-4
 enum-known-o-4 c = search needs
 
+enum-told-2 : tie.Need-enum-told-2
+enum-told-2 c = search needs
+
 returns : tie.Need-returns
 returns c = search code-idle
 
@@ -33,6 +36,9 @@ returns-4 c = search code-collect
 returns-5 : tie.Need-returns-5
 returns-5 c = search code-format
 
+returns-6 : tie.Need-returns-6
+returns-6 c = search code-unnamed
+
 pub coded-spec : {M : Type 1} → statement M
 coded-spec =
     tie.close
@@ -42,8 +48,10 @@ coded-spec =
     enum-known-o-2
     enum-known-o-3
     enum-known-o-4
+    enum-told-2
     returns
     returns-2
     returns-3
     returns-4
-    returns-5)
+    returns-5
+    returns-6)

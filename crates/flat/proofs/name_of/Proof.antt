@@ -21,4 +21,12 @@ returns-6 : tie.Need-returns-6
 returns-6 c = search name-none
 
 pub name-of-spec : {M : Type 1} → statement M
-name-of-spec = tie.close (tie.spec returns returns-2 returns-3 returns-4 returns-5 returns-6)
+name-of-spec =
+    tie.close
+    (tie.spec
+    returns
+    returns-2
+    returns-3
+    returns-4
+    returns-5
+    returns-6)

@@ -13,10 +13,10 @@ enum-known-a : tie.Need-enum-known-a
 enum-known-a c = search needs
 
 returns : tie.Need-returns
-returns c = search (answered-ready, needs)
+returns c = search answered-ready
 
 returns-2 : tie.Need-returns-2
-returns-2 c = search (answered-refused, needs)
+returns-2 c = search answered-refused
 
 pub answered-spec : {M : Type 1} → statement M
 answered-spec = tie.close (tie.spec flat-requires enum-told enum-known-a returns returns-2)

@@ -22,13 +22,13 @@ cast-t14 : tie.Need-cast-t14
 cast-t14 c = search needs
 
 returns : tie.Need-returns
-returns c = search (reported-refused, needs)
+returns c = search reported-refused
 
 returns-2 : tie.Need-returns-2
-returns-2 c = search (reported-page, needs)
+returns-2 c = search reported-page
 
 returns-3 : tie.Need-returns-3
-returns-3 c = search (reported-block, needs)
+returns-3 c = search reported-block
 
 pub reported-spec : {M : Type 1} → statement M
 reported-spec =

@@ -13,7 +13,7 @@ answered-requires : tie.Need-answered-requires
 answered-requires c κs = search needs
 
 returns : tie.Need-returns
-returns c = search (format-tells, needs)
+returns c = search format-tells
 
 pub vj-format-spec : {M : Type 1} → statement M
 vj-format-spec = tie.close (tie.spec format-requires flat-requires answered-requires returns)

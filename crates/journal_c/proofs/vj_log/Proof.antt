@@ -19,7 +19,7 @@ same-length-2 : tie.Need-same-length-2
 same-length-2 c = search needs
 
 returns : tie.Need-returns
-returns c = search (log-refuses, needs)
+returns c = search log-refuses
 
 same-length-3 : tie.Need-same-length-3
 same-length-3 c = search needs
@@ -28,7 +28,7 @@ same-length-4 : tie.Need-same-length-4
 same-length-4 c = search needs
 
 returns-2 : tie.Need-returns-2
-returns-2 c = search (log-counts, needs)
+returns-2 c = search log-counts
 
 pub vj-log-spec : {M : Type 1} → statement M
 vj-log-spec =

@@ -1,16 +1,10 @@
-use Rattle.journal_c.proofs.Laws.{opening-refuses, opening-tells, opening-unknown}
+use Rattle.journal_c.proofs.Laws.{opening-refuses, opening-tells}
 use borrow.Author.Needs.{needs}
 use Rattle.journal_c.proofs.vj_opening.Statement.{statement}
 use Rattle.journal_c.proofs.vj_opening.Tie as tie
 
 unflat-requires : tie.Need-unflat-requires
 unflat-requires c κs = search needs
-
-unknown-number-requires : tie.Need-unknown-number-requires
-unknown-number-requires c κs = search needs
-
-returns : tie.Need-returns
-returns c = search (opening-unknown, needs)
 
 opening-requires : tie.Need-opening-requires
 opening-requires c κs = search needs
@@ -21,21 +15,19 @@ enum-known-r c = search needs
 enum-known-r-2 : tie.Need-enum-known-r-2
 enum-known-r-2 c = search needs
 
-returns-2 : tie.Need-returns-2
-returns-2 c = search (opening-refuses, needs)
+returns : tie.Need-returns
+returns c = search opening-refuses
 
-returns-3 : tie.Need-returns-3
-returns-3 c = search (opening-tells, needs)
+returns-2 : tie.Need-returns-2
+returns-2 c = search opening-tells
 
 pub vj-opening-spec : {M : Type 1} → statement M
 vj-opening-spec =
     tie.close
     (tie.spec
     unflat-requires
-    unknown-number-requires
-    returns
     opening-requires
     enum-known-r
     enum-known-r-2
-    returns-2
-    returns-3)
+    returns
+    returns-2)

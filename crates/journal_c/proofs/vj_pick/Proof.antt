@@ -1,16 +1,10 @@
-use Rattle.journal_c.proofs.Laws.{pick-nothing, pick-refuses, pick-tells, pick-unknown}
+use Rattle.journal_c.proofs.Laws.{pick-nothing, pick-refuses, pick-tells}
 use borrow.Author.Needs.{needs}
 use Rattle.journal_c.proofs.vj_pick.Statement.{statement}
 use Rattle.journal_c.proofs.vj_pick.Tie as tie
 
 unflat-requires : tie.Need-unflat-requires
 unflat-requires c κs = search needs
-
-unknown-number-requires : tie.Need-unknown-number-requires
-unknown-number-requires c κs = search needs
-
-returns : tie.Need-returns
-returns c = search (pick-unknown, needs)
 
 pick-requires : tie.Need-pick-requires
 pick-requires c κs = search needs
@@ -24,26 +18,24 @@ enum-told c = search needs
 enum-known-r-2 : tie.Need-enum-known-r-2
 enum-known-r-2 c = search needs
 
+returns : tie.Need-returns
+returns c = search pick-refuses
+
 returns-2 : tie.Need-returns-2
-returns-2 c = search (pick-refuses, needs)
+returns-2 c = search pick-nothing
 
 returns-3 : tie.Need-returns-3
-returns-3 c = search (pick-nothing, needs)
-
-returns-4 : tie.Need-returns-4
-returns-4 c = search (pick-tells, needs)
+returns-3 c = search pick-tells
 
 pub vj-pick-spec : {M : Type 1} → statement M
 vj-pick-spec =
     tie.close
     (tie.spec
     unflat-requires
-    unknown-number-requires
-    returns
     pick-requires
     enum-known-r
     enum-told
     enum-known-r-2
+    returns
     returns-2
-    returns-3
-    returns-4)
+    returns-3)

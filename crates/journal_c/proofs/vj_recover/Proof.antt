@@ -10,7 +10,7 @@ flat-requires : tie.Need-flat-requires
 flat-requires c κs = search needs
 
 returns : tie.Need-returns
-returns c = search (found-is, needs)
+returns c = search found-is
 
 pub vj-recover-spec : {M : Type 1} → statement M
 vj-recover-spec = tie.close (tie.spec recover-requires flat-requires returns)

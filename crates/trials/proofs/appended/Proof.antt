@@ -13,7 +13,7 @@ same-length : tie.Need-same-length
 same-length c = search needs
 
 returns : tie.Need-returns
-returns c = search (carried-given, needs)
+returns c = search carried-given
 
 pub appended-spec : {M : Type 1} → statement M
 appended-spec = tie.close (tie.spec append-requires carried-requires same-length returns)

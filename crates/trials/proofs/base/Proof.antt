@@ -13,7 +13,7 @@ part-bytes-requires : tie.Need-part-bytes-requires
 part-bytes-requires c κs = search needs
 
 returns : tie.Need-returns
-returns c = search (no-entry, needs)
+returns c = search no-entry
 
 pub base-spec : {M : Type 1} → statement M
 base-spec =

@@ -13,19 +13,19 @@ array-share-prefix-keys : tie.Need-array-share-prefix-keys
 array-share-prefix-keys c = search needs
 
 slice-aggregate-append : tie.Need-slice-aggregate-append
-slice-aggregate-append c = search (valves-part, needs)
+slice-aggregate-append c = search valves-part
 
 array-share-prefix-words : tie.Need-array-share-prefix-words
 array-share-prefix-words c = search needs
 
 slice-aggregate-append-2 : tie.Need-slice-aggregate-append-2
-slice-aggregate-append-2 c = search (words-part, needs)
+slice-aggregate-append-2 c = search words-part
 
 append-requires : tie.Need-append-requires
 append-requires c κs = search needs
 
 returns : tie.Need-returns
-returns c = search (valves-appended, needs)
+returns c = search valves-appended
 
 pub begin-valves-spec : {M : Type 1} → statement M
 begin-valves-spec =

@@ -16,10 +16,10 @@ same-length : tie.Need-same-length
 same-length c = search needs
 
 returns : tie.Need-returns
-returns c = search (carried-ready, needs)
+returns c = search carried-ready
 
 returns-2 : tie.Need-returns-2
-returns-2 c = search (carried-refused, needs)
+returns-2 c = search carried-refused
 
 pub carried-spec : {M : Type 1} → statement M
 carried-spec =

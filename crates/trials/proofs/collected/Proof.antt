@@ -13,7 +13,7 @@ same-length : tie.Need-same-length
 same-length c = search needs
 
 returns : tie.Need-returns
-returns c = search (carried-given, needs)
+returns c = search carried-given
 
 pub collected-spec : {M : Type 1} → statement M
 collected-spec = tie.close (tie.spec collect-requires carried-requires same-length returns)

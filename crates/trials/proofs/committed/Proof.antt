@@ -13,7 +13,7 @@ same-length : tie.Need-same-length
 same-length c = search needs
 
 returns : tie.Need-returns
-returns c = search (carried-given, needs)
+returns c = search carried-given
 
 pub committed-spec : {M : Type 1} → statement M
 committed-spec = tie.close (tie.spec commit-requires carried-requires same-length returns)

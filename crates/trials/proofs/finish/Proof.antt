@@ -11,7 +11,7 @@ abbrev μ-loop : tie.MeasureT-loop
 μ-loop m₀ state₀ steps₀ m state steps = 20 - steps
 
 loop-holds : tie.Need-loop-holds Inv-loop μ-loop
-loop-holds c = search (run-start, needs)
+loop-holds c = search run-start
 
 turn-requires : tie.Need-turn-requires Inv-loop μ-loop
 turn-requires c κs = search needs
@@ -23,7 +23,7 @@ same-length : tie.Need-same-length Inv-loop μ-loop
 same-length c = search needs
 
 returns : tie.Need-returns Inv-loop μ-loop
-returns c = search (run-last, needs)
+returns c = search run-last
 
 add-steps : tie.Need-add-steps Inv-loop μ-loop
 add-steps c = search needs
@@ -32,13 +32,13 @@ loop-less : tie.Need-loop-less Inv-loop μ-loop
 loop-less c = search needs
 
 loop-again : tie.Need-loop-again Inv-loop μ-loop
-loop-again c = search (run-next, needs)
+loop-again c = search run-next
 
 same-length-2 : tie.Need-same-length-2 Inv-loop μ-loop
 same-length-2 c = search needs
 
 returns-2 : tie.Need-returns-2 Inv-loop μ-loop
-returns-2 c = search (run-end, needs)
+returns-2 c = search run-end
 
 pub finish-spec : {M : Type 1} → statement M
 finish-spec =

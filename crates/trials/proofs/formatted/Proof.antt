@@ -13,7 +13,7 @@ same-length : tie.Need-same-length
 same-length c = search needs
 
 returns : tie.Need-returns
-returns c = search (carried-formatted, needs)
+returns c = search carried-formatted
 
 pub formatted-spec : {M : Type 1} → statement M
 formatted-spec = tie.close (tie.spec format-requires carried-requires same-length returns)

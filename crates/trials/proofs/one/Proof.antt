@@ -13,7 +13,7 @@ page-bytes-requires : tie.Need-page-bytes-requires
 page-bytes-requires c κs = search needs
 
 returns : tie.Need-returns
-returns c = search (one-entry, needs)
+returns c = search one-entry
 
 pub one-spec : {M : Type 1} → statement M
 one-spec =

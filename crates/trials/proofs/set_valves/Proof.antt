@@ -13,7 +13,7 @@ same-length : tie.Need-same-length
 same-length c = search needs
 
 returns : tie.Need-returns
-returns c = search (valves-carried, needs)
+returns c = search valves-carried
 
 pub set-valves-spec : {M : Type 1} → statement M
 set-valves-spec = tie.close (tie.spec begin-valves-requires carried-requires same-length returns)

@@ -19,19 +19,19 @@ same-length : tie.Need-same-length
 same-length c = search needs
 
 returns : tie.Need-returns
-returns c = search (turn-refused, needs)
+returns c = search turn-refused
 
 same-length-2 : tie.Need-same-length-2
 same-length-2 c = search needs
 
 returns-2 : tie.Need-returns-2
-returns-2 c = search (turn-programmed, needs)
+returns-2 c = search turn-programmed
 
 same-length-3 : tie.Need-same-length-3
 same-length-3 c = search needs
 
 returns-3 : tie.Need-returns-3
-returns-3 c = search (turn-erased, needs)
+returns-3 c = search turn-erased
 
 pub turn-spec : {M : Type 1} → statement M
 turn-spec =

@@ -11,7 +11,7 @@ abbrev μ-loop : tie.MeasureT-loop
 μ-loop low keys₀ i₀ keys i = 97 - i
 
 loop-holds : tie.Need-loop-holds Inv-loop μ-loop
-loop-holds c = search (laid-start, needs)
+loop-holds c = search laid-start
 
 cast-keys : tie.Need-cast-keys Inv-loop μ-loop
 cast-keys c = search needs
@@ -32,10 +32,10 @@ loop-less : tie.Need-loop-less Inv-loop μ-loop
 loop-less c = search needs
 
 loop-again : tie.Need-loop-again Inv-loop μ-loop
-loop-again c = search (laid-next, needs)
+loop-again c = search laid-next
 
 returns : tie.Need-returns Inv-loop μ-loop
-returns c = search (laid-end, needs)
+returns c = search laid-end
 
 pub valves-spec : {M : Type 1} → statement M
 valves-spec =
