@@ -25,9 +25,11 @@ use Rattle.step.specs.Step.{Step, program, erase, pageNeeds, programming, appen
 use Rattle.begin.specs.declared.Answer.the-variants.{Ready, Refused}
 use Rattle.begin.specs.declared.Begun.{Begun}
 use Rattle.begin.specs.Begun.{Told, toldOf, given, Formatted, formatted, formattedOf, asFormatted}
+use Rattle.advance.specs.declared.Report.{Report}
 use Rattle.advance.specs.declared.Report.the-variants as report
 use Rattle.advance.specs.declared.Stepped.{Stepped}
-use Rattle.advance.specs.Outcomes.{Outcome, done, doneOf, performed, Steps}
+use Rattle.advance.specs.declared.Touch.{Touch}
+use Rattle.advance.specs.Outcomes.{Outcome, numbersOf, done, doneOf, performed, Steps}
 use Rattle.journal_c.specs.declared.VjStepped.{VjStepped}
 use Rattle.journal_c.specs.declared.VjBegun.{VjBegun}
 use Rattle.journal_c.specs.Writes.{FlatTold, toldBy, begunBy, answeredAs, givenFlat, withoutState, formattedBy, FlatDone, FlatOutcome, touchedBy, steppedBy, outcomeBy, reportedAs, doneFlat, performedFlat}
@@ -114,22 +116,26 @@ byte-one : (d : Bool) → eqb (boolByte d) 1 ≡ d
 byte-one true = refl
 byte-one false = refl
 
-module _ (f : VjState) (t : Stepped) where
-  pub reported-refused : (n : ℕ) → t .report ≡ report.Refused n
-      → steppedBy (record { number = n; touched = 0; finished = 0; at = 0; state = f }) ≡ reportedAs f (doneOf (t .report) (t .state))
-  unfolding steppedBy reportedAs
-  reported-refused n q = rw q (by-cases (eqb n 0) (λ h. rw h (unfold touchedBy in refl)) (λ h. rw h))
+module _ (f : VjState) (t : Stepped) (d : Touch) (e : d ≡ numbersOf (t .report)) where
+  pub reported-refused : (d .number ≡ 0 → ⊥) → steppedBy (record { number = d .number; touched = 0; finished = 0; at = 0; state = f }) ≡ reportedAs f (doneOf (t .report) (t .state))
+  unfolding steppedBy reportedAs numbersOf
+  reported-refused h = go (t .report) e
+    where
+      go : (x : Report) → d ≡ numbersOf x → steppedBy (record { number = d .number; touched = 0; finished = 0; at = 0; state = f }) ≡ reportedAs f (doneOf x (t .state))
+      go (report.Refused n) q = let z : d .number ≡ n = ap (λ (x : Touch). x .number) q in rw (← z, ne-eqb (d .number) 0 h)
+      go (report.Programmed k b) q = absurd (h (ap (λ (x : Touch). x .number) q))
+      go (report.Erased k b) q = absurd (h (ap (λ (x : Touch). x .number) q))
 
-  module _ (g : VjState) (e : heldBy g ≡ meaning (t .state)) (k : ℕ) (d : Bool) where
-    pub reported-page : t .report ≡ report.Programmed k d
-        → steppedBy (record { number = 0; touched = 1; finished = boolByte d; at = k; state = g }) ≡ reportedAs f (doneOf (t .report) (t .state))
-    unfolding steppedBy touchedBy reportedAs
-    reported-page q = rw (q, e, byte-one d)
-
-    pub reported-block : t .report ≡ report.Erased k d
-        → steppedBy (record { number = 0; touched = 2; finished = boolByte d; at = k; state = g }) ≡ reportedAs f (doneOf (t .report) (t .state))
-    unfolding steppedBy touchedBy reportedAs
-    reported-block q = rw (q, e, byte-one d)
+  pub reported-touch : (g : VjState) → heldBy g ≡ meaning (t .state) → d .number ≡ 0
+      → steppedBy (record { number = 0; touched = d .touched; finished = boolByte (d .over); at = d .at; state = g }) ≡ reportedAs f (doneOf (t .report) (t .state))
+  unfolding steppedBy touchedBy reportedAs numbersOf
+  reported-touch g o z = go (t .report) e
+    where
+      go : (x : Report) → d ≡ numbersOf x
+          → steppedBy (record { number = 0; touched = d .touched; finished = boolByte (d .over); at = d .at; state = g }) ≡ reportedAs f (doneOf x (t .state))
+      go (report.Refused n) q = let y : n ≡ 0 = sym (ap (λ (x : Touch). x .number) q) ∙ z in rw (q, y)
+      go (report.Programmed k b) q = rw (q, o, byte-one b)
+      go (report.Erased k b) q = rw (q, o, byte-one b)
 
 -- ---- no refusal of a step has the number 0
 

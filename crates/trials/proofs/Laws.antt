@@ -26,7 +26,8 @@ use Rattle.begin.specs.Begun.{Told, told, toldOf, given, Formatted, formatted, 
 use Rattle.advance.specs.declared.Report.{Report}
 use Rattle.advance.specs.declared.Report.the-variants.{Refused, Programmed, Erased}
 use Rattle.advance.specs.declared.Stepped.{Stepped}
-use Rattle.advance.specs.Outcomes.{Done, turnedBack, page, block, doneOf, done, performed, Steps}
+use Rattle.advance.specs.declared.Touch.{Touch}
+use Rattle.advance.specs.Outcomes.{Done, turnedBack, page, block, numbersOf, doneOf, done, performed, Steps}
 use Rattle.trials.specs.declared.Turned.{Turned}
 use Rattle.trials.specs.declared.Trial.{Trial}
 use Rattle.trials.specs.Runs.{Went, wentAs, went, turned, Run, runAs, over, onward, run, carried, carriedOf, Formats, valvesFrom, valvesRun, fillAs, further, fill}
@@ -47,21 +48,18 @@ performed-went m s (erase b after finished) = refl
 
 -- what the code reports of a step
 module _ (m m′ : List ℕ) (s : State) (r : Stepped) (e : Steps m s r m′) where
-  stepped-went : (x : Report) → r .report ≡ x → wentBy (doneOf x (r .state)) m′ ≡ turned m (meaning s)
+  stepped-went : wentBy (doneOf (r .report) (r .state)) m′ ≡ turned m (meaning s)
   unfolding turned
-  stepped-went x q =
-      ap (λ y. wentBy (doneOf y (r .state)) m′) (sym q)
-      ∙ ap (λ o. wentBy (o .done) (o .medium)) e
-      ∙ performed-went m s (stepOf (length m) (views m) (meaning s))
+  stepped-went = ap (λ o. wentBy (o .done) (o .medium)) e ∙ performed-went m s (stepOf (length m) (views m) (meaning s))
 
-  pub turn-refused : (n : ℕ) → r .report ≡ Refused n → wentAs (record { number = n; touched = 0; over = true; state = r .state }) m′ ≡ turned m (meaning s)
-  turn-refused n q = stepped-went (Refused n) q
-
-  pub turn-programmed : (p : ℕ) (last : Bool) → r .report ≡ Programmed p last → wentAs (record { number = 0; touched = p; over = last; state = r .state }) m′ ≡ turned m (meaning s)
-  turn-programmed p last q = stepped-went (Programmed p last) q
-
-  pub turn-erased : (b : ℕ) (last : Bool) → r .report ≡ Erased b last → wentAs (record { number = 0; touched = b; over = last; state = r .state }) m′ ≡ turned m (meaning s)
-  turn-erased b last q = stepped-went (Erased b last) q
+  pub turn-is : (d : Touch) → d ≡ numbersOf (r .report) → wentAs (record { number = d .number; touched = d .at; over = d .over; state = r .state }) m′ ≡ turned m (meaning s)
+  unfolding numbersOf
+  turn-is d q = go (r .report) q ∙ stepped-went
+    where
+      go : (x : Report) → d ≡ numbersOf x → wentAs (record { number = d .number; touched = d .at; over = d .over; state = r .state }) m′ ≡ wentBy (doneOf x (r .state)) m′
+      go (Refused n) e = rw e
+      go (Programmed k b) e = rw e
+      go (Erased k b) e = rw e
 
 -- ---- an operation
 

@@ -10,7 +10,6 @@ ghost use Rattle.state.specs.State.{meaning};
 ghost use Rattle.calls.specs.Calls.{formatOf};
 ghost use Rattle.begin.specs.Begun.{toldOf, asFormatted, Appends};
 ghost use Rattle.trials.specs.Runs.{numberIn, wentAs, turned, runAs, run, carried as carried-on, appendRun, commitRun, collectRun, Formats, valvesFrom, valvesRun, fillAs, fill as fill-up};
-use advance::Report;
 use begin::Answer;
 use begin::Begun;
 use state::State;
@@ -78,25 +77,12 @@ pub fn turn(m: &mut [u8], s: State) -> Turned
     let r = advance::step(m, s);
     let state = r.state;
     let report = r.report;
-    match report {
-        Report::Refused(number) => Turned {
-            number: number,
-            touched: 0,
-            over: true,
-            state: state,
-        },
-        Report::Programmed(page, last) => Turned {
-            number: 0,
-            touched: page,
-            over: last,
-            state: state,
-        },
-        Report::Erased(block, last) => Turned {
-            number: 0,
-            touched: block,
-            over: last,
-            state: state,
-        },
+    let did = advance::numbers(report);
+    Turned {
+        number: did.number,
+        touched: did.at,
+        over: did.over,
+        state: state,
     }
 }
 
