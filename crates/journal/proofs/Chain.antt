@@ -1,9 +1,9 @@
 -- The chain from the promises of the code to point 3: the machine moves exactly as the world of the theorem does, so each run of the code is
 -- one of the theorem's lists, and what the theorem says of recovery is what the program is handed.
 use mathlib.Core.Path.{_≡_, refl, sym, ap, _∙_, subst}
-use mathlib.Core.Bool.{Bool, true, false}
+use mathlib.Core.Bool.{true}
 use mathlib.Core.Option.{Option, none, some}
-use mathlib.Core.List.{List, []}
+use mathlib.Core.List.{List}
 use Prim.Native.Nat.{ℕ}
 use native.Mathlib.Omega.{arith}
 use lib.Dec.{ltb, eqb}
@@ -12,7 +12,7 @@ use borrow.Author.Tests.{eqb-true, eq-eqb}
 use Rattle.lists.specs.declared.Cell.{Cell}
 use Rattle.lists.specs.Lists.{isSome, valueOr}
 use Rattle.lists.specs.Needs.{checked}
-use Rattle.lists.specs.Cells.{cell, Entry, listed}
+use Rattle.lists.specs.Cells.{cell, Entry}
 use Rattle.lists.proofs.Laws.{by-cases}
 use Rattle.page.specs.Pages.{View}
 use Rattle.flash.specs.Medium.{views}
@@ -25,22 +25,19 @@ use Rattle.recovery.specs.Recovery.{Recovery, recover as recoverOf, changesOf}
 use Rattle.recover.specs.declared.Recovered.{Recovered}
 use Rattle.recover.specs.Told as told
 use Rattle.recover.specs.Told.{Recovers}
-use Rattle.readings.specs.Readings.{filed, readInto, readLog, Opening, word, openingOf, Pick, pickOf}
-use Rattle.read.specs.declared.Logged.{Logged}
-use Rattle.read.specs.declared.Opened.{Opened}
-use Rattle.read.specs.Answers.{logRead, Logs, openedOf, Opens, wordOr6}
+use Rattle.readings.specs.Readings.{filed, readInto, readLog, Opening, word, openingOf, pickOf}
+use Rattle.read.specs.Answers.{wordOr6}
 use Rattle.calls.specs.Calls.{Call, formatOf}
 use Rattle.step.specs.Step.{Step, mediumAfter}
 use Rattle.begin.specs.declared.Answer.{Answer}
 use Rattle.begin.specs.declared.Answer.the-variants.{Ready, Refused}
 use Rattle.begin.specs.declared.Begun.{Begun}
 use Rattle.begin.specs.Begun as begun
-use Rattle.begin.specs.Begun.{Formats}
 use Rattle.advance.specs.declared.Report.{Report}
 use Rattle.advance.specs.declared.Report.the-variants as report
 use Rattle.advance.specs.declared.Stepped.{Stepped}
 use Rattle.advance.specs.Outcomes as outcomes
-use Rattle.advance.specs.Outcomes.{Done, Outcome, doneOf, outcome, done, performed}
+use Rattle.advance.specs.Outcomes.{Outcome, doneOf, outcome, done, performed}
 use Rattle.valve_log.specs.History.{History, start as noHistory, Told, tell}
 use Rattle.valve_log.specs.Reached as reached
 use Rattle.valve_log.specs.Reached.{World, world, withState, stepDue, Event, called, stepped, recovered, cutShort, happen, Words, end, more, Shows, Point3}

@@ -1,6 +1,6 @@
 -- Laws of the flat structs, in the shapes that the code's proofs ask.
 use mathlib.Core.Path.{_≡_, refl, sym, ap, _∙_}
-use mathlib.Core.Bool.{true, false, not}
+use mathlib.Core.Bool.{true, not}
 use mathlib.Core.Option.{Option, none, some}
 use mathlib.Core.List.{List, [], _∷_}
 use Prim.Native.Nat.{ℕ, _+_, _*_, _/_, _%_, _≤_, _<_}
@@ -13,7 +13,7 @@ use borrow.Author.Tests.{ne-eqb, le-leb, lt-leb, leb-true}
 use Rattle.lists.specs.Lists.{valueOr, table}
 use Rattle.lists.specs.Cells.{Entry, keysOf, wordsOf}
 use Rattle.codec.specs.Codec.{putAt}
-use Rattle.lists.specs.Needs.{Need, need, checked, numberOf}
+use Rattle.lists.specs.Needs.{Need, need, checked}
 use Rattle.lists.proofs.Laws.{by-cases, and-l, and-r, numbered, length-table, get-table}
 use Rattle.flash.specs.Medium.{views, pageAt}
 use Rattle.nodes.specs.Nodes.{wordAt, pickBelow}
@@ -36,7 +36,7 @@ use Rattle.read.specs.declared.Picked.the-variants as picked
 use Rattle.read.specs.declared.Supplied.{Supplied}
 use Rattle.read.specs.declared.Supplied.the-variants as supplied
 use Rattle.read.specs.Answers.{logRead, openedOf, pickedOf, surveyedOf, suppliedOf}
-use Rattle.readings.specs.Readings.{LogRead, Answer, changes, unread, longEnough, filed, readInto, readLog, Opening, word, openingNeeds, openingOf, placeOf, Pick, nothing, block, pickedBlock, pickOf, Survey, counts, surveyOf, Supply, pages, availableOf}
+use Rattle.readings.specs.Readings.{LogRead, Answer, changes, unread, longEnough, filed, readInto, readLog, Opening, word, openingNeeds, openingOf, placeOf, Pick, nothing, block, pickedBlock, pickOf, counts, surveyOf, Supply, pages, availableOf}
 use Rattle.journal_c.specs.Flat.{Found, found, foundBy, answerBy, logBy, IsPage, openingBy, pickBy, joined, Joined, joinedIn, surveyBy, supplyBy}
 
 -- ---- recovery

@@ -9,7 +9,6 @@ use lib.ListN.{length, take, set, replicate, length-set}
 use lib.Dec.{eqb}
 use borrow.Author.Tests.{eq-eqb, ne-eqb}
 use lib.Seq.{length-take-le, take-all, take-suc-set}
-use Rattle.lists.specs.declared.Cell.{Cell}
 use Rattle.lists.specs.Lists.{table}
 use Rattle.lists.specs.Cells.{cell, pairs}
 use Rattle.lists.proofs.Laws.{length-table, pairs-none}

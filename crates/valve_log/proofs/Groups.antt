@@ -17,7 +17,7 @@ use Rattle.page.specs.Pages.{page, begins, ends, pagesFor}
 use Rattle.page.specs.Rules.{mayCarry, leastCount, entryOk, serialOk, lawful}
 use Rattle.index.specs.Index.{removalOk, removalsOk}
 use Rattle.state.specs.State.{basePages}
-use Rattle.recovery.specs.Recovery.{Placed, placed, kindOf, consecutive, Group, Walk, between, inside, stray, joined, begun, continues, enter, groupsOf, entriesOf}
+use Rattle.recovery.specs.Recovery.{Placed, placed, kindOf, Group, Walk, between, inside, stray, joined, begun, continues, enter, groupsOf, entriesOf}
 use Rattle.step.specs.Step.{isLast, flagsOf, groupPage}
 use Rattle.valve_log.proofs.Order.{isBegin}
 

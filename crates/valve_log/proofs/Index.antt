@@ -8,14 +8,14 @@ use Prim.Native.Nat.{ℕ, suc, _-_, _*_, _≤_}
 use native.Mathlib.Omega.{arith}
 use lib.ListN.{length}
 use lib.Dec.{leb, ltb, eqb}
-use borrow.Author.Tests.{leb-true, le-ltb, le-leb, eq-eqb, ne-eqb}
+use borrow.Author.Tests.{leb-true}
 use Rattle.lists.specs.declared.Cell.{Cell}
 use Rattle.lists.specs.Lists.{all, keep, isSome, valueOr}
 use Rattle.lists.specs.Cells.{cell, keysOf}
-use Rattle.lists.proofs.Laws.{by-cases, and-l, and-r, and-both, all-head, all-tail, all-cons, opposite}
+use Rattle.lists.proofs.Laws.{by-cases, and-l, and-r, all-head, all-tail, all-cons, opposite}
 use Rattle.page.specs.Pages.{View}
 use Rattle.index.specs.Index.{put, remove, risingFrom, rising, assign, assignAll, mostValves, within}
-use Rattle.index.proofs.Rising.{rising-head, rising-tail, assign-rising}
+use Rattle.index.proofs.Rising.{assign-rising}
 use Rattle.index.proofs.Members.{In, first, later, in-none, assign-same, members-within}
 use Rattle.nodes.specs.Nodes.{wordAt, sound, words, inBlock, insertByAddress, byAddress, live}
 use Rattle.recovery.specs.Recovery.{Placed, entriesOf}

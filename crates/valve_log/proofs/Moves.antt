@@ -11,7 +11,7 @@ use borrow.Author.Tests.{eqb-true, le-ltb, eq-eqb, ne-eqb}
 use Rattle.lists.specs.declared.Cell.{Cell}
 use Rattle.lists.specs.Lists.{all, keep}
 use Rattle.lists.specs.Cells.{cell, Place}
-use Rattle.lists.proofs.Laws.{by-cases, and-r, all-head, all-tail, all-keep}
+use Rattle.lists.proofs.Laws.{by-cases, all-head, all-tail, all-keep}
 use Rattle.index.specs.Index.{put, risingFrom, rising, assign, assignAll}
 use Rattle.index.proofs.Rising.{rising-tail, assign-rising}
 use Rattle.nodes.specs.Nodes.{inBlock, insertByAddress, byAddress, live}

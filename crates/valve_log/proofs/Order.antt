@@ -1,14 +1,14 @@
 -- Laws of sorting by serial, of serials that rise by one, of the walk and of the search for the base.
-use mathlib.Core.Path.{_≡_, refl, sym, ap, _∙_}
+use mathlib.Core.Path.{_≡_, refl, ap}
 use mathlib.Core.Bool.{Bool, true, false, not, cond, _&&_, _||_}
-use mathlib.Core.Option.{Option, none, some}
+use mathlib.Core.Option.{none, some}
 use mathlib.Core.List.{List, [], _∷_, _++_}
 use Prim.Native.Nat.{ℕ, suc, _+_, _≤_, _<_}
 use native.Mathlib.Omega.{arith}
 use lib.ListN.{length}
 use lib.Dec.{leb, ltb, eqb}
 use borrow.Author.Tests.{ltb-true, leb-true, leb-false, eqb-true, not-true, lt-ltb, le-ltb, le-leb, lt-leb, eq-eqb, ne-eqb}
-use Rattle.lists.specs.Lists.{all, every, keep, isSome, valueOr}
+use Rattle.lists.specs.Lists.{all, every, keep, isSome}
 use Rattle.lists.proofs.Laws.{by-cases, and-l, and-r, and-both, true-false, all-head, all-tail, all-cons, all-weaken, keep-append, keep-all, all-keep, opposite, keep-none}
 use Rattle.page.specs.Pages.{begins, ends}
 use Rattle.recovery.specs.Recovery.{Placed, serialOf, kindOf, otherSerial, distinct, insert, sort, lastOf, goesOn, startsGroup, baseOf, reaches, from, consecutive, Walk, enter, walk}

@@ -16,7 +16,7 @@ use Rattle.lists.specs.Lists.{all}
 use Rattle.lists.specs.Cells.{cell, Entry}
 use Rattle.lists.proofs.Laws.{by-cases, and-l, and-r, and-both, all-head, all-tail}
 use Rattle.index.specs.Index.{entering, mostValves, risingFrom, assign, assignAll, within}
-use Rattle.recovery.specs.Recovery.{Placed, kindOf, Group, entriesOf, logOf, pagesOf, above, stack, enterOne, enterAll, enterPage, enterPages}
+use Rattle.recovery.specs.Recovery.{Placed, kindOf, Group, entriesOf, logOf, above, stack, enterOne, enterAll, enterPage, enterPages}
 use Rattle.recovery.proofs.Pages.{above-snoc}
 use Rattle.step.specs.Step.{groupPage, addressedFrom, addressed}
 use Rattle.valve_log.proofs.Index.{nodes, nodesOf, assign-append}
