@@ -1,7 +1,5 @@
 // Runs 01's test pages and test media on the proved functions and prints what they give.
 ghost use Prim.Native.Nat.{_≤_};
-use read::Picked;
-use read::Supplied;
 use show::line;
 use show::text;
 use state::State;
@@ -66,19 +64,23 @@ fn pages() {
 // The length of a medium in bytes.
 fn lengths() {
     let longest = begin::format(&[255u8; 65536]);
-    show::answer(b"format of 65536 bytes: ", trials::number_of(longest));
+    show::answer(b"format of 65536 bytes: ", longest.number);
     let longer = begin::format(&[255u8; 69632]);
-    show::answer(b"format of 69632 bytes: ", trials::number_of(longer));
+    show::answer(b"format of 69632 bytes: ", longer.number);
+}
+
+// A medium formatted, whatever was on it: its state.
+fn fresh(m: &mut [u8]) -> State {
+    let t = trials::formatted(m);
+    t.state
 }
 
 // The pages of an append of n entries.
-fn append_pages(n: usize)
+fn append_pages(m: &mut [u8], n: usize)
     requires { ⌜ n ≤ 97 ⌝ }
 {
-    let mut m = trials::blank();
-    let t = trials::formatted(&mut m);
-    let s = t.state;
-    let u = trials::set_valves(&mut m, s, 0, n);
+    let s = fresh(m);
+    let u = trials::set_valves(m, s, 0, n);
     show::number(n as u64);
     if u.number != 0 {
         show::answer(b" entries: ", u.number);
@@ -88,44 +90,43 @@ fn append_pages(n: usize)
 }
 
 // The pages of a commit of `low` valves from 0 on and `high` from 96 on. An append of none is refused, and hands the state back.
-fn commit_pages(low: usize, high: usize)
+fn commit_pages(m: &mut [u8], low: usize, high: usize)
     requires { ⌜ (low ≤ 97) × (high ≤ 97) ⌝ }
 {
-    let mut m = trials::blank();
-    let t = trials::formatted(&mut m);
-    let s = t.state;
-    let u = trials::set_valves(&mut m, s, 0, low);
+    let s = fresh(m);
+    let u = trials::set_valves(m, s, 0, low);
     let s = u.state;
-    let w = trials::set_valves(&mut m, s, 96, high);
+    let w = trials::set_valves(m, s, 96, high);
     let s = w.state;
     let n = s.index.count;
-    let x = trials::committed(&mut m, s);
+    let x = trials::committed(m, s);
     show::number(n as u64);
     line(b" valves: pages of a commit ", x.steps as u64);
 }
 
+// Valve 7 set after format.
+fn valve_7(m: &mut [u8]) -> State {
+    let s = fresh(m);
+    let u = trials::appended(m, s, &[7], &[20]);
+    u.state
+}
+
 // An unset valve is removed: the log grows, the settings stay.
-fn unset_removed() {
-    let mut m = trials::blank();
-    let t = trials::formatted(&mut m);
-    let s = t.state;
-    let u = trials::appended(&mut m, s, &[7], &[20]);
-    let s = u.state;
+fn unset_removed(m: &mut [u8]) {
+    let s = valve_7(m);
     text(b"valve 7 set to 20:\n");
-    show::medium(&m);
-    trials::appended(&mut m, s, &[32773], &[0]);
+    show::medium(m);
+    trials::appended(m, s, &[32773], &[0]);
     text(b"valve 5, which is not set, removed:\n");
-    show::medium(&m);
+    show::medium(m);
 }
 
 // A valve twice in a group.
-fn twice() {
-    let mut m = trials::blank();
-    let t = trials::formatted(&mut m);
-    let s = t.state;
-    trials::appended(&mut m, s, &[5, 7, 5], &[1000, 20, 30]);
+fn twice(m: &mut [u8]) {
+    let s = fresh(m);
+    trials::appended(m, s, &[5, 7, 5], &[1000, 20, 30]);
     text(b"valve 5 twice in a group:\n");
-    show::medium(&m);
+    show::medium(m);
 }
 
 // The next append after a cut.
@@ -139,41 +140,41 @@ fn next_append(m: &mut [u8], s: State) {
     line(b", serial ", flash::page_serial(m, p));
 }
 
-// 30 entries, cut after their first page.
-fn cut() {
-    let mut m = trials::blank();
-    let t = trials::formatted(&mut m);
-    let s = t.state;
-    let b = trials::begin_valves(&m, s, 0, 30);
+// The first page of 30 entries.
+fn first_page(m: &mut [u8]) {
+    let s = fresh(m);
+    let b = trials::begin_valves(m, s, 0, 30);
     let s = b.state;
-    let u = trials::turn(&mut m, s);
+    let u = trials::turn(m, s);
     line(b"30 entries cut after page ", u.touched as u64);
-    show::medium(&m);
-    let r = recover::recover(&m);
+}
+
+// 30 entries, cut after their first page.
+fn cut(m: &mut [u8]) {
+    first_page(m);
+    show::medium(m);
+    let r = recover::recover(m);
     let s = r.state;
-    next_append(&mut m, s);
+    next_append(m, s);
 }
 
 // The pages that are available.
 fn available(m: &[u8], s: State) {
     let r = read::available(m, s);
-    match r {
-        Supplied::Pages(n) => {
-            show::number(n as u64);
-            text(b" available\n");
-        }
-        Supplied::Refused(n) => show::refused(n),
+    if r.number != 0 {
+        show::refused(r.number);
+        return;
     }
+    show::number(r.pages as u64);
+    text(b" available\n");
 }
 
 // One-page groups until one is refused.
-fn filled() {
-    let mut m = trials::blank();
-    let t = trials::formatted(&mut m);
-    let s = t.state;
+fn filled(m: &mut [u8]) {
+    let s = fresh(m);
     text(b"format of 4 blocks: ");
-    available(&m, s);
-    let f = trials::fill(&mut m, s);
+    available(m, s);
+    let f = trials::fill(m, s);
     line(b"one-page groups that pass: ", f.groups as u64);
     show::answer(b"the next: ", f.number);
 }
@@ -181,11 +182,15 @@ fn filled() {
 // The picker's choice.
 fn picked(m: &[u8], s: State) {
     let r = read::pick(m, s);
-    match r {
-        Picked::Block(b) => line(b"the picker names block ", b),
-        Picked::Nothing => text(b"the picker names none\n"),
-        Picked::Refused(n) => show::refused(n),
+    if r.number != 0 {
+        show::refused(r.number);
+        return;
     }
+    if r.found {
+        line(b"the picker names block ", r.block);
+        return;
+    }
+    text(b"the picker names none\n");
 }
 
 // A row of the survey.
@@ -225,36 +230,40 @@ fn renewed(m: &mut [u8], s: State) {
     first_block(m, s);
 }
 
-// The document's sample: {5→1000, 7→20}, {remove 5}; then a recovery, which closes the head, a commit and a collection.
-fn sample() {
-    let mut m = trials::blank();
-    let t = trials::formatted(&mut m);
-    let s = t.state;
-    let u = trials::appended(&mut m, s, &[5, 7], &[1000, 20]);
+// {5→1000, 7→20}, {remove 5}.
+fn two_groups(m: &mut [u8]) {
+    let s = fresh(m);
+    let u = trials::appended(m, s, &[5, 7], &[1000, 20]);
     let s = u.state;
-    trials::appended(&mut m, s, &[32773], &[0]);
+    trials::appended(m, s, &[32773], &[0]);
+}
+
+// The document's sample; then a recovery, which closes the head, a commit and a collection.
+fn sample(m: &mut [u8]) {
+    two_groups(m);
     text(b"{5 to 1000, 7 to 20}, {remove 5}:\n");
-    show::medium(&m);
-    let r = recover::recover(&m);
+    show::medium(m);
+    let r = recover::recover(m);
     let s = r.state;
-    first_block(&m, s);
-    renewed(&mut m, s);
+    first_block(m, s);
+    renewed(m, s);
 }
 
 fn main() {
+    let mut m = trials::blank();
     pages();
-    append_pages(24);
-    append_pages(25);
-    append_pages(96);
-    append_pages(97);
-    commit_pages(0, 0);
-    commit_pages(24, 0);
-    commit_pages(25, 0);
-    commit_pages(96, 96);
-    unset_removed();
-    twice();
+    append_pages(&mut m, 24);
+    append_pages(&mut m, 25);
+    append_pages(&mut m, 96);
+    append_pages(&mut m, 97);
+    commit_pages(&mut m, 0, 0);
+    commit_pages(&mut m, 24, 0);
+    commit_pages(&mut m, 25, 0);
+    commit_pages(&mut m, 96, 96);
+    unset_removed(&mut m);
+    twice(&mut m);
     lengths();
-    cut();
-    filled();
-    sample();
+    cut(&mut m);
+    filled(&mut m);
+    sample(&mut m);
 }

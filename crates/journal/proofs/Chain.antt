@@ -29,15 +29,11 @@ use Rattle.readings.specs.Readings.{filed, readInto, readLog, Opening, word, op
 use Rattle.read.specs.Answers.{wordOr6}
 use Rattle.calls.specs.Calls.{Call, formatOf}
 use Rattle.step.specs.Step.{Step, mediumAfter}
-use Rattle.begin.specs.declared.Answer.{Answer}
-use Rattle.begin.specs.declared.Answer.the-variants.{Ready, Refused}
 use Rattle.begin.specs.declared.Begun.{Begun}
 use Rattle.begin.specs.Begun as begun
-use Rattle.advance.specs.declared.Report.{Report}
-use Rattle.advance.specs.declared.Report.the-variants as report
 use Rattle.advance.specs.declared.Stepped.{Stepped}
 use Rattle.advance.specs.Outcomes as outcomes
-use Rattle.advance.specs.Outcomes.{Outcome, doneOf, outcome, done, performed}
+use Rattle.advance.specs.Outcomes.{Outcome, touchedBy, doneOf, outcome, done, performed}
 use Rattle.valve_log.specs.History.{History, start as noHistory, Told, tell}
 use Rattle.valve_log.specs.Reached as reached
 use Rattle.valve_log.specs.Reached.{World, world, withState, stepDue, Event, called, stepped, recovered, cutShort, happen, Words, end, more, Shows, Point3}
@@ -51,40 +47,48 @@ use Rattle.journal.specs.Run.{Machine, machine, meant, worldOf, goingOn,
 -- a call that begins an operation
 begins : (m : List ℕ) (s : State) (t : Told) (c : Call) (r : Begun) → begun.toldOf r ≡ begun.given s c
     → world m (some (meaning (r .state))) ≡ called (world m (some (meaning s))) t c .after
-unfolding called
-begins m s t (Call.refused n) r e = go (r .answer) (r .state) e
-  where
-    go : (a : Answer) (x : State) → begun.told a x ≡ begun.Told.turnedBack n s → world m (some (meaning x)) ≡ world m (some (meaning s))
-    go Ready x q = let z : _≡_ {A = ℕ} 0 1 = cc in absurd (omega arith)
-    go (Refused k) x q = let z : x ≡ s = cc in ap (λ (y : State). world m (some (meaning y))) z
-begins m s t (Call.begun h) r e = go (r .answer) (r .state) e
-  where
-    go : (a : Answer) (x : State) → begun.told a x ≡ begun.Told.ready h → world m (some (meaning x)) ≡ world m (some h)
-    go Ready x q = let z : meaning x ≡ h = cc in ap (λ (y : Held). world m (some y)) z
-    go (Refused k) x q = let z : _≡_ {A = ℕ} 0 1 = cc in absurd (omega arith)
+unfolding called begun.toldOf
+begins m s t (Call.refused n) r e =
+    by-cases (eqb (r .number) 0)
+    (λ q. let y = rw q at e in let z : _≡_ {A = ℕ} 0 1 = cc in absurd (omega arith))
+    (λ q. let y = rw q at e in let z : r .state ≡ s = cc in rw z)
+begins m s t (Call.begun h) r e =
+    by-cases (eqb (r .number) 0)
+    (λ q. let y = rw q at e in let z : meaning (r .state) ≡ h = cc in ap (λ (x : Held). world m (some x)) z)
+    (λ q. let y = rw q at e in let z : _≡_ {A = ℕ} 0 1 = cc in absurd (omega arith))
 
--- a step
+-- what the state holds after what a step's answer says
+unfoldable heldAfter : Held → Option outcomes.Done → Held
+heldAfter h none = h
+heldAfter h (some (outcomes.turnedBack n s)) = meaning s
+heldAfter h (some (outcomes.page p finished after)) = after
+heldAfter h (some (outcomes.block b finished after)) = after
+
+-- an answer that says something says what the state handed back holds
+said : (h : Held) (r : Stepped) (d : outcomes.Done) → doneOf r ≡ some d → heldAfter h (doneOf r) ≡ meaning (r .state)
+unfolding doneOf touchedBy heldAfter
+said h r d e =
+    by-cases (eqb (r .number) 0)
+    (λ q. by-cases (eqb (r .touched) 1) (λ k. rw (q, k))
+    (λ k. by-cases (eqb (r .touched) 2) (λ l. rw (q, k, l))
+    (λ l. let y = rw (q, k, l) at e in let z : _≡_ {A = ℕ} 0 1 = cc in absurd (omega arith))))
+    (λ q. rw q)
+
+-- a step leaves what its definition says
+left : (m : List ℕ) (s : State) (t : Step) → world (mediumAfter m t) (some (heldAfter (meaning s) (some (done s t)))) ≡ stepped (world m (some (meaning s))) t .after
+unfolding stepped done mediumAfter heldAfter
+left m s (Step.refused n) = refl
+left m s (Step.program p pg x finished) = refl
+left m s (Step.erase b x finished) = refl
+
 steps : (m m′ : List ℕ) (s : State) (t : Step) (r : Stepped) → outcome r m′ ≡ performed m s t
     → world m′ (some (meaning (r .state))) ≡ stepped (world m (some (meaning s))) t .after
-unfolding stepped performed done mediumAfter
-steps m m′ s (Step.refused n) r e = go (r .report) (r .state) (ap (λ (o : Outcome). o .done) e)
-  where
-    go : (a : Report) (x : State) → doneOf a x ≡ outcomes.turnedBack n s → world m′ (some (meaning x)) ≡ world m (some (meaning s))
-    go (report.Refused k) x q = let z : x ≡ s = cc in let y : m′ ≡ m = ap (λ (o : Outcome). o .medium) e in rw (y, z)
-    go (report.Programmed p f) x q = let z : _≡_ {A = ℕ} 0 1 = cc in absurd (omega arith)
-    go (report.Erased b f) x q = let z : _≡_ {A = ℕ} 0 1 = cc in absurd (omega arith)
-steps m m′ s (Step.program p pg after finished) r e = go (r .report) (r .state) (ap (λ (o : Outcome). o .done) e)
-  where
-    go : (a : Report) (x : State) → doneOf a x ≡ outcomes.page p finished after → world m′ (some (meaning x)) ≡ world (mediumAfter m (Step.program p pg after finished)) (some after)
-    go (report.Refused k) x q = let z : _≡_ {A = ℕ} 0 1 = cc in absurd (omega arith)
-    go (report.Programmed k f) x q = let z : meaning x ≡ after = cc in let y : m′ ≡ mediumAfter m (Step.program p pg after finished) = ap (λ (o : Outcome). o .medium) e in rw (y, z)
-    go (report.Erased b f) x q = let z : _≡_ {A = ℕ} 0 1 = cc in absurd (omega arith)
-steps m m′ s (Step.erase b after finished) r e = go (r .report) (r .state) (ap (λ (o : Outcome). o .done) e)
-  where
-    go : (a : Report) (x : State) → doneOf a x ≡ outcomes.block b finished after → world m′ (some (meaning x)) ≡ world (mediumAfter m (Step.erase b after finished)) (some after)
-    go (report.Refused k) x q = let z : _≡_ {A = ℕ} 0 1 = cc in absurd (omega arith)
-    go (report.Programmed k f) x q = let z : _≡_ {A = ℕ} 0 1 = cc in absurd (omega arith)
-    go (report.Erased k f) x q = let z : meaning x ≡ after = cc in let y : m′ ≡ mediumAfter m (Step.erase b after finished) = ap (λ (o : Outcome). o .medium) e in rw (y, z)
+unfolding performed
+steps m m′ s t r e =
+    let d : doneOf r ≡ some (done s t) = ap (λ (o : Outcome). o .done) e in
+    let y : m′ ≡ mediumAfter m t = ap (λ (o : Outcome). o .medium) e in
+    let z : meaning (r .state) ≡ heldAfter (meaning s) (some (done s t)) = sym (said (meaning s) r (done s t) d) ∙ ap (heldAfter (meaning s)) d in
+    ap (λ (l : List ℕ). world l (some (meaning (r .state)))) y ∙ ap (λ (x : Held). world (mediumAfter m t) (some x)) z ∙ left m s t
 
 -- a recovery
 recovers : (m : List ℕ) (s : Option State) (R : Recovery) (r : Recovered) → told.told m r ≡ told.tell R
@@ -120,9 +124,10 @@ moves x y e (Moves.cutInside m left s allowed) = cuts (world m (some (meaning s)
 
 -- ---- lists of events
 
-formats : (m : List ℕ) (c : Call) (r : Begun) → begun.formattedOf r ≡ begun.asFormatted c → r .answer ≡ Ready → c ≡ Call.begun (meaning (r .state))
-formats m (Call.refused n) r e q = let y = rw q at e in let z : _≡_ {A = ℕ} 0 1 = cc in absurd (omega arith)
-formats m (Call.begun h) r e q = let y = rw q at e in let z : meaning (r .state) ≡ h = cc in rw z
+formats : (m : List ℕ) (c : Call) (r : Begun) → begun.formattedOf r ≡ begun.asFormatted c → r .number ≡ 0 → c ≡ Call.begun (meaning (r .state))
+unfolding begun.toldOf
+formats m (Call.refused n) r e q = let y = rw (eq-eqb (r .number) 0 q) at e in let z : _≡_ {A = ℕ} 0 1 = cc in absurd (omega arith)
+formats m (Call.begun h) r e q = let y = rw (eq-eqb (r .number) 0 q) at e in let z : meaning (r .state) ≡ h = cc in rw z
 
 -- what the world comes to, the machine comes to
 there : (P : World → Type 0) (x y : Machine) (e : Event (worldOf x)) → Moves x e y → P (happen (worldOf x) e .after) → P (worldOf y)

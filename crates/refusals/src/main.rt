@@ -1,6 +1,5 @@
 // Makes the small example of each number in 01's table of refusals, and prints what the call answered.
-use read::Logged;
-use read::Opened;
+use state::State;
 
 // A page of one entry, with valve 5, programmed.
 fn put_page(m: &mut [u8], p: usize, kind: u8, serial: u64, word: u64) {
@@ -35,6 +34,12 @@ fn zero_byte(m: &mut [u8], at: usize) {
     }
 }
 
+// A medium formatted, whatever was on it: its state.
+fn fresh(m: &mut [u8]) -> State {
+    let t = trials::formatted(m);
+    t.state
+}
+
 // The number that recovery answers.
 fn recovered(m: &[u8]) -> u8 {
     let r = recover::recover(m);
@@ -44,32 +49,29 @@ fn recovered(m: &[u8]) -> u8 {
 // 1: a medium of three blocks.
 fn short_medium() -> u8 {
     let b = begin::format(&[255u8; 12288]);
-    trials::number_of(b)
+    b.number
 }
 
 // 2: a whole page of kind 9.
-fn kind_9() -> u8 {
-    let mut m = trials::blank();
-    trials::formatted(&mut m);
-    put_page(&mut m, 1, 9, 2, 1000);
-    recovered(&m)
+fn kind_9(m: &mut [u8]) -> u8 {
+    fresh(m);
+    put_page(m, 1, 9, 2, 1000);
+    recovered(m)
 }
 
 // 3: page 0 copied to page 1.
-fn copied_page() -> u8 {
-    let mut m = trials::blank();
-    trials::formatted(&mut m);
-    copy_page(&mut m);
-    recovered(&m)
+fn copied_page(m: &mut [u8]) -> u8 {
+    fresh(m);
+    copy_page(m);
+    recovered(m)
 }
 
 // 5: a base with serial 1, nodes with serials 2 and 4.
-fn gap() -> u8 {
-    let mut m = trials::blank();
-    trials::formatted(&mut m);
-    put_page(&mut m, 1, 1, 2, 1000);
-    put_page(&mut m, 2, 1, 4, 1000);
-    recovered(&m)
+fn gap(m: &mut [u8]) -> u8 {
+    fresh(m);
+    put_page(m, 1, 1, 2, 1000);
+    put_page(m, 2, 1, 4, 1000);
+    recovered(m)
 }
 
 // 6: a base whose valve 5 is at address 0, in the base itself.
@@ -80,63 +82,57 @@ fn base_at_itself() -> u8 {
 }
 
 // 7: a state of 4 blocks with a medium of 5.
-fn other_medium() -> u8 {
-    let mut m = trials::blank();
-    let t = trials::formatted(&mut m);
-    let s = t.state;
+fn other_medium(m: &mut [u8]) -> u8 {
+    let s = fresh(m);
     let b = begin::commit(&[255u8; 20480], s);
-    trials::number_of(b)
+    b.number
 }
 
 // 8: an append begun, then a commit.
-fn begun_twice() -> u8 {
-    let mut m = trials::blank();
-    let t = trials::formatted(&mut m);
-    let s = t.state;
-    let a = begin::append(&m, s, &[5], &[1000]);
+fn begun_twice(m: &mut [u8]) -> u8 {
+    let s = fresh(m);
+    let a = begin::append(m, s, &[5], &[1000]);
     let s = a.state;
-    let b = begin::commit(&m, s);
-    trials::number_of(b)
+    let b = begin::commit(m, s);
+    b.number
 }
 
 // 9: a step after recovery.
-fn none_pending() -> u8 {
-    let mut m = trials::blank();
-    trials::formatted(&mut m);
-    let r = recover::recover(&m);
+fn none_pending(m: &mut [u8]) -> u8 {
+    fresh(m);
+    let r = recover::recover(m);
     let s = r.state;
-    let t = trials::turn(&mut m, s);
+    let t = trials::turn(m, s);
     t.number
 }
 
 // 10 and 11: an append of these keys and words after format.
-fn appended(keys: &[u16], words: &[u64]) -> u8 {
-    let mut m = trials::blank();
-    let t = trials::formatted(&mut m);
-    let s = t.state;
-    let b = begin::append(&m, s, keys, words);
-    trials::number_of(b)
+fn appended(m: &mut [u8], keys: &[u16], words: &[u64]) -> u8 {
+    let s = fresh(m);
+    let b = begin::append(m, s, keys, words);
+    b.number
+}
+
+// 192 valves set.
+fn most_valves(m: &mut [u8]) -> State {
+    let s = fresh(m);
+    let u = trials::set_valves(m, s, 0, 96);
+    let s = u.state;
+    let w = trials::set_valves(m, s, 96, 96);
+    w.state
 }
 
 // 12: a 193rd valve.
-fn valve_193() -> u8 {
-    let mut m = trials::blank();
-    let t = trials::formatted(&mut m);
-    let s = t.state;
-    let u = trials::set_valves(&mut m, s, 0, 96);
-    let s = u.state;
-    let w = trials::set_valves(&mut m, s, 96, 96);
-    let s = w.state;
-    let b = begin::append(&m, s, &[192], &[0]);
-    trials::number_of(b)
+fn valve_193(m: &mut [u8]) -> u8 {
+    let s = most_valves(m);
+    let b = begin::append(m, s, &[192], &[0]);
+    b.number
 }
 
 // 13: the 48th group of one page.
-fn group_48() -> u8 {
-    let mut m = trials::blank();
-    let t = trials::formatted(&mut m);
-    let s = t.state;
-    let f = trials::fill(&mut m, s);
+fn group_48(m: &mut [u8]) -> u8 {
+    let s = fresh(m);
+    let f = trials::fill(m, s);
     f.number
 }
 
@@ -147,80 +143,97 @@ fn last_serial() -> u8 {
     let r = recover::recover(&m);
     let s = r.state;
     let b = begin::append(&m, s, &[5], &[1000]);
-    trials::number_of(b)
+    b.number
 }
 
 // 15: block 0 after format.
-fn fresh_block() -> u8 {
-    let mut m = trials::blank();
-    let t = trials::formatted(&mut m);
-    let s = t.state;
-    let b = begin::collect(&m, s, 0);
-    trials::number_of(b)
+fn fresh_block(m: &mut [u8]) -> u8 {
+    let s = fresh(m);
+    let b = begin::collect(m, s, 0);
+    b.number
 }
 
 // 16: a byte of the page due zeroed.
-fn zeroed_byte() -> u8 {
-    let mut m = trials::blank();
-    let t = trials::formatted(&mut m);
-    let s = t.state;
-    let b = begin::append(&m, s, &[5], &[1000]);
+fn zeroed_byte(m: &mut [u8]) -> u8 {
+    let s = fresh(m);
+    let b = begin::append(m, s, &[5], &[1000]);
     let s = b.state;
-    zero_byte(&mut m, 256);
-    let u = trials::turn(&mut m, s);
+    zero_byte(m, 256);
+    let u = trials::turn(m, s);
     u.number
 }
 
 // 17: two places for three changes.
-fn short_lists() -> u8 {
-    let mut m = trials::blank();
-    let t = trials::formatted(&mut m);
-    let s = t.state;
-    trials::appended(&mut m, s, &[5, 7, 5], &[1000, 20, 30]);
+fn short_lists(m: &mut [u8]) -> u8 {
+    let s = fresh(m);
+    trials::appended(m, s, &[5, 7, 5], &[1000, 20, 30]);
     let mut keys = [0u16; 2];
     let mut words = [0u64; 2];
-    let r = read::log(&m, &mut keys, &mut words);
-    match r {
-        Logged::Changes(_) => 0,
-        Logged::Refused(n) => n,
-    }
+    let r = read::log(m, &mut keys, &mut words);
+    r.number
 }
 
 // 18: a valve that is not set.
-fn unset_valve() -> u8 {
-    let mut m = trials::blank();
-    let t = trials::formatted(&mut m);
-    let s = t.state;
-    let r = read::opening(&m, s, 5);
-    match r {
-        Opened::Word(_) => 0,
-        Opened::Refused(n) => n,
-    }
+fn unset_valve(m: &mut [u8]) -> u8 {
+    let s = fresh(m);
+    let r = read::opening(m, s, 5);
+    r.number
 }
 
-fn main() {
+// 1 to 3.
+fn pages_refused(m: &mut [u8]) {
     show::answer(b"1 12288 bytes: ", short_medium());
-    show::answer(b"2 kind 9: ", kind_9());
-    show::answer(b"3 page 0 copied to page 1: ", copied_page());
+    show::answer(b"2 kind 9: ", kind_9(m));
+    show::answer(b"3 page 0 copied to page 1: ", copied_page(m));
+}
+
+// 4 to 6.
+fn bases_refused(m: &mut [u8]) {
     show::answer(b"4 16384 bytes FFh: ", recovered(&[255u8; 16384]));
-    show::answer(b"5 base 1, nodes 2 and 4: ", gap());
+    show::answer(b"5 base 1, nodes 2 and 4: ", gap(m));
     show::answer(
         b"6 base: valve 5 at address 0, itself a base: ",
         base_at_itself(),
     );
-    show::answer(b"7 state of 4 blocks, medium of 5: ", other_medium());
-    show::answer(b"8 append, then commit: ", begun_twice());
-    show::answer(b"9 step after recovery: ", none_pending());
-    show::answer(b"10 97 entries: ", appended(&[5; 97], &[0; 97]));
-    show::answer(b"11 key 32773, word 1: ", appended(&[32773], &[1]));
-    show::answer(b"12 a 193rd: ", valve_193());
-    show::answer(b"13 the 48th group: ", group_48());
+}
+
+// 7 to 9.
+fn states_refused(m: &mut [u8]) {
+    show::answer(b"7 state of 4 blocks, medium of 5: ", other_medium(m));
+    show::answer(b"8 append, then commit: ", begun_twice(m));
+    show::answer(b"9 step after recovery: ", none_pending(m));
+}
+
+// 10 to 12.
+fn groups_refused(m: &mut [u8]) {
+    show::answer(b"10 97 entries: ", appended(m, &[5; 97], &[0; 97]));
+    show::answer(b"11 key 32773, word 1: ", appended(m, &[32773], &[1]));
+    show::answer(b"12 a 193rd: ", valve_193(m));
+}
+
+// 13 to 15.
+fn room_refused(m: &mut [u8]) {
+    show::answer(b"13 the 48th group: ", group_48(m));
     show::answer(b"14 next 2^64 - 1: ", last_serial());
-    show::answer(b"15 block 0 after format: ", fresh_block());
+    show::answer(b"15 block 0 after format: ", fresh_block(m));
+}
+
+// 16 to 18.
+fn last_refused(m: &mut [u8]) {
     show::answer(
         b"16 format, append begun, byte 256 zeroed, then a step: ",
-        zeroed_byte(),
+        zeroed_byte(m),
     );
-    show::answer(b"17 3 changes, 2 places: ", short_lists());
-    show::answer(b"18 valve 5 after format: ", unset_valve());
+    show::answer(b"17 3 changes, 2 places: ", short_lists(m));
+    show::answer(b"18 valve 5 after format: ", unset_valve(m));
+}
+
+fn main() {
+    let mut m = trials::blank();
+    pages_refused(&mut m);
+    bases_refused(&mut m);
+    states_refused(&mut m);
+    groups_refused(&mut m);
+    room_refused(&mut m);
+    last_refused(&mut m);
 }

@@ -2,8 +2,6 @@
 ghost use mathlib.Core.Path.{_≡_};
 ghost use Prim.Native.Nat.{_≤_};
 ghost use lib.ListN.{length};
-use read::Logged;
-use read::Opened;
 use state::State;
 
 // Text as it is.
@@ -78,14 +76,13 @@ fn changes(keys: &[u16], words: &[u64], n: usize) {
 
 // A valve that is set, with its word.
 fn setting(m: &[u8], s: State, valve: u16) {
-    let word = read::opening(m, s, valve);
-    match word {
-        Opened::Word(w) => {
-            number(valve as u64);
-            line(b" ", w);
-        }
-        Opened::Refused(n) => refused(n),
+    let r = read::opening(m, s, valve);
+    if r.number != 0 {
+        refused(r.number);
+        return;
     }
+    number(valve as u64);
+    line(b" ", r.word);
 }
 
 // Each valve that is set.
@@ -113,9 +110,10 @@ pub fn medium(m: &[u8]) {
     let mut keys = no_keys();
     let mut words = no_words();
     let logged = read::log(m, &mut keys, &mut words);
-    match logged {
-        Logged::Changes(n) => changes(&keys, &words, n),
-        Logged::Refused(n) => refused(n),
+    if logged.number != 0 {
+        refused(logged.number);
+        return;
     }
+    changes(&keys, &words, logged.count);
     settings(m, r.state);
 }

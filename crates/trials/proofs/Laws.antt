@@ -1,6 +1,7 @@
 -- Operations run to their end, in the shapes that the code's proofs ask.
 use mathlib.Core.Path.{_≡_, refl, sym, ap, _∙_}
 use mathlib.Core.Bool.{Bool, true, false, cond}
+use mathlib.Core.Option.{Option, none, some}
 use mathlib.Core.List.{List, [], _∷_, _++_}
 use Prim.Native.Nat.{ℕ, suc, _+_, _-_, _≤_, _<_}
 use native.Mathlib.Numerals.{add-one}
@@ -11,7 +12,7 @@ use borrow.Author.Tests.{eq-eqb, ne-eqb}
 use lib.Seq.{length-take-le, take-all, take-suc-set}
 use Rattle.lists.specs.Lists.{table}
 use Rattle.lists.specs.Cells.{cell, pairs}
-use Rattle.lists.proofs.Laws.{length-table, pairs-none}
+use Rattle.lists.proofs.Laws.{by-cases, length-table, pairs-none}
 use Rattle.page.specs.Pages as pages
 use Rattle.page.specs.Layout.{encode}
 use Rattle.flash.specs.Medium.{views}
@@ -19,46 +20,45 @@ use Rattle.state.specs.declared.State.{State}
 use Rattle.state.specs.State.{meaning}
 use Rattle.calls.specs.Calls.{Call, appendOf}
 use Rattle.step.specs.Step.{Step, refused, program, erase, mediumAfter, stepOf}
-use Rattle.begin.specs.declared.Answer.{Answer}
 use Rattle.begin.specs.declared.Begun.{Begun}
-use Rattle.begin.specs.Begun.{Told, told, toldOf, given, Formatted, formatted, formattedOf, Appends}
-use Rattle.advance.specs.declared.Report.{Report}
-use Rattle.advance.specs.declared.Report.the-variants.{Refused, Programmed, Erased}
+use Rattle.begin.specs.Begun.{Told, toldOf, given, Formatted, formatted, formattedOf, Appends}
 use Rattle.advance.specs.declared.Stepped.{Stepped}
-use Rattle.advance.specs.declared.Touch.{Touch}
-use Rattle.advance.specs.Outcomes.{Done, turnedBack, page, block, numbersOf, doneOf, done, performed, Steps}
+use Rattle.advance.specs.Outcomes.{Done, turnedBack, page, block, Outcome, touchedBy, doneOf, done, performed, Steps}
 use Rattle.trials.specs.declared.Turned.{Turned}
 use Rattle.trials.specs.declared.Trial.{Trial}
 use Rattle.trials.specs.Runs.{Went, wentAs, went, turned, Run, runAs, over, onward, run, carried, carriedOf, Formats, valvesFrom, valvesRun, fillAs, further, fill}
 
 -- ---- one step
 
--- what was done, as a turn
-abbrev wentBy : Done → List ℕ → Went
-wentBy (turnedBack n s) m = record { number = n; touched = 0; over = true; state = meaning s; medium = m }
-wentBy (page p finished after) m = record { number = 0; touched = p; over = finished; state = after; medium = m }
-wentBy (block b finished after) m = record { number = 0; touched = b; over = finished; state = after; medium = m }
+-- what was done, as a turn; s is the state where nothing is said
+abbrev wentBy : State → Option Done → List ℕ → Went
+wentBy s none m = record { number = 0; touched = 0; over = true; state = meaning s; medium = m }
+wentBy s (some (turnedBack n x)) m = record { number = n; touched = 0; over = true; state = meaning x; medium = m }
+wentBy s (some (page p finished after)) m = record { number = 0; touched = p; over = finished; state = after; medium = m }
+wentBy s (some (block b finished after)) m = record { number = 0; touched = b; over = finished; state = after; medium = m }
 
-performed-went : (m : List ℕ) (s : State) (t : Step) → wentBy (performed m s t .done) (performed m s t .medium) ≡ went m (meaning s) t
+performed-went : (m : List ℕ) (s : State) (t : Step) → wentBy s (performed m s t .done) (performed m s t .medium) ≡ went m (meaning s) t
 unfolding performed done mediumAfter went
 performed-went m s (refused n) = refl
 performed-went m s (program p pg after finished) = refl
 performed-went m s (erase b after finished) = refl
 
--- what the code reports of a step
+-- what the code says of a step
 module _ (m m′ : List ℕ) (s : State) (r : Stepped) (e : Steps m s r m′) where
-  stepped-went : wentBy (doneOf (r .report) (r .state)) m′ ≡ turned m (meaning s)
+  stepped-went : wentBy s (doneOf r) m′ ≡ turned m (meaning s)
   unfolding turned
-  stepped-went = ap (λ o. wentBy (o .done) (o .medium)) e ∙ performed-went m s (stepOf (length m) (views m) (meaning s))
+  stepped-went = ap (λ o. wentBy s (o .done) (o .medium)) e ∙ performed-went m s (stepOf (length m) (views m) (meaning s))
 
-  pub turn-is : (d : Touch) → d ≡ numbersOf (r .report) → wentAs (record { number = d .number; touched = d .at; over = d .over; state = r .state }) m′ ≡ turned m (meaning s)
-  unfolding numbersOf
-  turn-is d q = go (r .report) q ∙ stepped-went
-    where
-      go : (x : Report) → d ≡ numbersOf x → wentAs (record { number = d .number; touched = d .at; over = d .over; state = r .state }) m′ ≡ wentBy (doneOf x (r .state)) m′
-      go (Refused n) e = rw e
-      go (Programmed k b) e = rw e
-      go (Erased k b) e = rw e
+  pub turn-refused : (r .number ≡ 0 → ⊥) → wentAs (record { number = r .number; touched = 0; over = true; state = r .state }) m′ ≡ turned m (meaning s)
+  unfolding doneOf
+  turn-refused h = rw (ne-eqb (r .number) 0 h) at stepped-went
+
+  pub turn-made : r .number ≡ 0 → wentAs (record { number = 0; touched = r .at; over = r .finished; state = r .state }) m′ ≡ turned m (meaning s)
+  unfolding doneOf touchedBy performed
+  turn-made z =
+      by-cases (eqb (r .touched) 1) (λ h. rw (eq-eqb (r .number) 0 z, h) at stepped-went)
+      (λ h. by-cases (eqb (r .touched) 2) (λ k. rw (eq-eqb (r .number) 0 z, h, k) at stepped-went)
+      (λ k. let y = rw (eq-eqb (r .number) 0 z, h, k) at (ap (λ (o : Outcome). o .done) e) in let q : _≡_ {A = ℕ} 0 1 = cc in absurd (omega arith)))
 
 -- ---- an operation
 
@@ -95,14 +95,13 @@ unfolding run
 run-end m₀ s₀ m s i h r = let none : 20 - i ≡ 0 = omega arith in ap (λ n. run n i m (meaning s)) (sym none) ∙ r .so
 
 -- a call's refusal, and the operation it began
-pub carried-refused : (m : List ℕ) (b : Begun) (n : ℕ) → b .answer ≡ Answer.Refused n
-    → runAs (record { number = n; steps = 0; touched = 0; state = b .state }) m ≡ carried m (toldOf b)
-unfolding carried
-carried-refused m b n q = ap (λ a. carried m (told a (b .state))) (sym q)
+pub carried-refused : (m : List ℕ) (b : Begun) → (b .number ≡ 0 → ⊥) → runAs (record { number = b .number; steps = 0; touched = 0; state = b .state }) m ≡ carried m (toldOf b)
+unfolding carried toldOf
+carried-refused m b h = rw (ne-eqb (b .number) 0 h)
 
-pub carried-ready : (m m′ : List ℕ) (b : Begun) (t : Trial) → b .answer ≡ Answer.Ready → runAs t m′ ≡ run 20 0 m (meaning (b .state)) → runAs t m′ ≡ carried m (toldOf b)
-unfolding carried
-carried-ready m m′ b t q e = e ∙ ap (λ a. carried m (told a (b .state))) (sym q)
+pub carried-ready : (m m′ : List ℕ) (b : Begun) (t : Trial) → b .number ≡ 0 → runAs t m′ ≡ run 20 0 m (meaning (b .state)) → runAs t m′ ≡ carried m (toldOf b)
+unfolding carried toldOf
+carried-ready m m′ b t z e = rw (eq-eqb (b .number) 0 z) e
 
 -- told by a call's definition
 carried-call : (m : List ℕ) (s : State) (c : Call) → carried m (given s c) ≡ carriedOf m (meaning s) c

@@ -9,8 +9,7 @@ ghost use Rattle.page.specs.Layout.{encode};
 ghost use Rattle.state.specs.State.{meaning};
 ghost use Rattle.calls.specs.Calls.{formatOf};
 ghost use Rattle.begin.specs.Begun.{toldOf, asFormatted, Appends};
-ghost use Rattle.trials.specs.Runs.{numberIn, wentAs, turned, runAs, run, carried as carried-on, appendRun, commitRun, collectRun, Formats, valvesFrom, valvesRun, fillAs, fill as fill-up};
-use begin::Answer;
+ghost use Rattle.trials.specs.Runs.{wentAs, turned, runAs, run, carried as carried-on, appendRun, commitRun, collectRun, Formats, valvesFrom, valvesRun, fillAs, fill as fill-up};
 use begin::Begun;
 use state::State;
 
@@ -59,29 +58,24 @@ pub fn base(serial: u64) -> [u8; 256]
     build::part_bytes(2, 3, serial, &[0u16; 1], &[0u64; 1], 0, 0)
 }
 
-// The number of a call's answer, 0 where it began an operation.
-pub fn number_of(b: Begun) -> u8
-    ensures { λ r. ⌜ r ≡ numberIn (b .answer) ⌝ }
-{
-    let answer = b.answer;
-    match answer {
-        Answer::Ready => 0,
-        Answer::Refused(number) => number,
-    }
-}
-
 // One step of the pending operation. A refusal ends it.
 pub fn turn(m: &mut [u8], s: State) -> Turned
     ensures { λ r. ⌜ wentAs r (now (m .exit)) ≡ turned (now (m .entry)) (meaning s) ⌝ }
 {
     let r = advance::step(m, s);
     let state = r.state;
-    let report = r.report;
-    let did = advance::numbers(report);
+    if r.number != 0 {
+        return Turned {
+            number: r.number,
+            touched: 0,
+            over: true,
+            state: state,
+        };
+    }
     Turned {
-        number: did.number,
-        touched: did.at,
-        over: did.over,
+        number: 0,
+        touched: r.at,
+        over: r.finished,
         state: state,
     }
 }
@@ -119,16 +113,15 @@ fn carried(m: &mut [u8], b: Begun) -> Trial
     ensures { λ r. ⌜ runAs r (now (m .exit)) ≡ carried-on (now (m .entry)) (toldOf b) ⌝ }
 {
     let state = b.state;
-    let answer = b.answer;
-    match answer {
-        Answer::Ready => finish(m, state),
-        Answer::Refused(number) => Trial {
-            number: number,
+    if b.number != 0 {
+        return Trial {
+            number: b.number,
             steps: 0,
             touched: 0,
             state: state,
-        },
+        };
     }
+    finish(m, state)
 }
 
 // Formatting.

@@ -3,9 +3,6 @@ use borrow.Author.Needs.{needs}
 use Rattle.journal_c.proofs.vj_survey.Statement.{statement}
 use Rattle.journal_c.proofs.vj_survey.Tie as tie
 
-unflat-requires : tie.Need-unflat-requires
-unflat-requires c κs = search needs
-
 survey-requires : tie.Need-survey-requires
 survey-requires c κs = search needs
 
@@ -16,10 +13,4 @@ returns : tie.Need-returns
 returns c = search survey-tells
 
 pub vj-survey-spec : {M : Type 1} → statement M
-vj-survey-spec =
-    tie.close
-    (tie.spec
-    unflat-requires
-    survey-requires
-    joined-requires
-    returns)
+vj-survey-spec = tie.close (tie.spec survey-requires joined-requires returns)

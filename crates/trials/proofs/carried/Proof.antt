@@ -3,24 +3,17 @@ use borrow.Author.Needs.{needs}
 use Rattle.trials.proofs.carried.Statement.{statement}
 use Rattle.trials.proofs.carried.Tie as tie
 
-enum-told : tie.Need-enum-told
-enum-told c = search needs
+returns : tie.Need-returns
+returns c = search carried-refused
 
 finish-requires : tie.Need-finish-requires
 finish-requires c κs = search needs
 
-enum-known-answer : tie.Need-enum-known-answer
-enum-known-answer c = search needs
-
 same-length : tie.Need-same-length
 same-length c = search needs
 
-returns : tie.Need-returns
-returns c = search carried-ready
-
 returns-2 : tie.Need-returns-2
-returns-2 c = search carried-refused
+returns-2 c = search carried-ready
 
 pub carried-spec : {M : Type 1} → statement M
-carried-spec =
-    tie.close (tie.spec enum-told finish-requires enum-known-answer same-length returns returns-2)
+carried-spec = tie.close (tie.spec returns finish-requires same-length returns-2)

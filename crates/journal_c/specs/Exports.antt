@@ -1,4 +1,4 @@
--- What the answers of the readings say in their flat structs.
+-- What the answers say that the exports alone have: recovery without its log, the place of a page, the survey in one list.
 use mathlib.Core.Path.{_≡_}
 use mathlib.Core.Bool.{cond}
 use mathlib.Core.List.{List, []}
@@ -8,17 +8,12 @@ use lib.Dec.{eqb, leb}
 use Rattle.lists.specs.Lists.{table}
 use Rattle.codec.specs.Codec.{part}
 use Rattle.flash.specs.Medium.{pageAt}
-use Rattle.state.specs.State.{Held}
-use Rattle.flat.specs.Flat.{heldBy}
+use Rattle.state.specs.State.{Held, meaning}
 use Rattle.recovery.specs.Recovery.{Recovery, refused, recovered}
-use Rattle.readings.specs.Readings.{LogRead, Answer, changes, Opening, word, Pick, nothing, block, Survey, counts, Supply, pages}
+use Rattle.readings.specs.Readings.{Survey, counts}
 use Rattle.journal_c.specs.declared.VjRecovered.{VjRecovered}
-use Rattle.journal_c.specs.declared.VjCount.{VjCount}
 use Rattle.journal_c.specs.declared.VjPart.{VjPart}
-use Rattle.journal_c.specs.declared.VjWord.{VjWord}
-use Rattle.journal_c.specs.declared.VjPick.{VjPick}
 use Rattle.journal_c.specs.declared.VjSurvey.{VjSurvey}
-use Rattle.journal_c.specs.declared.VjPages.{VjPages}
 
 -- ---- recovery: a refusal, or the state
 
@@ -33,17 +28,7 @@ found (recovered log s) = state s
 
 -- what the call's answer says
 unfoldable pub foundBy : VjRecovered → Found
-foundBy r = cond (eqb (r .number) 0) (state (heldBy (r .state))) (turnedBack (r .number))
-
--- ---- the log
-
--- a number that refuses, or 0 and a count
-unfoldable pub answerBy : VjCount → Answer
-answerBy c = cond (eqb (c .number) 0) (changes (c .count)) (Answer.turnedBack (c .number))
-
--- the answer, with the two lent lists as the call leaves them
-abbrev pub logBy : VjCount → List ℕ → List ℕ → LogRead
-logBy c keys words = record { answer = answerBy c; keys = keys; words = words }
+foundBy r = cond (eqb (r .number) 0) (state (meaning (r .state))) (turnedBack (r .number))
 
 -- ---- pages
 
@@ -53,17 +38,8 @@ pub record IsPage (m : List ℕ) (p : ℕ) (r : VjPart) : Type 0 where
   pub start : r .offset ≡ cond (leb (256 * p + 256) (length m)) (256 * p) 0
   pub size : r .length ≡ cond (leb (256 * p + 256) (length m)) 256 0
 
--- ---- the readings of a lent state
+-- ---- the survey: sixteen rows of three counts, one row after another
 
--- the opening of a valve
-unfoldable pub openingBy : VjWord → Opening
-openingBy r = cond (eqb (r .number) 0) (word (r .word)) (Opening.turnedBack (r .number))
-
--- the picker; found is 1 where a block is picked
-unfoldable pub pickBy : VjPick → Pick
-pickBy r = cond (eqb (r .number) 0) (cond (eqb (r .found) 1) (block (r .block)) nothing) (Pick.turnedBack (r .number))
-
--- the survey: sixteen rows of three counts, one row after another
 unfoldable pub joined : List (List ℕ) → List ℕ
 joined rows = table 48 (λ i. getD (getD rows (i / 3) []) (i % 3) 0)
 
@@ -77,7 +53,3 @@ joinedIn (counts rows) = inOne (joined rows)
 
 unfoldable pub surveyBy : VjSurvey → Joined
 surveyBy r = cond (eqb (r .number) 0) (inOne (r .counts)) (Joined.turnedBack (r .number))
-
--- available pages
-unfoldable pub supplyBy : VjPages → Supply
-supplyBy r = cond (eqb (r .number) 0) (pages (r .pages)) (Supply.turnedBack (r .number))
