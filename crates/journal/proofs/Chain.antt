@@ -25,7 +25,7 @@ use Rattle.recovery.specs.Recovery.{Recovery, recover as recoverOf, changesOf}
 use Rattle.recover.specs.declared.Recovered.{Recovered}
 use Rattle.recover.specs.Told as told
 use Rattle.recover.specs.Told.{Recovers}
-use Rattle.readings.specs.Readings.{filed, readInto, readLog, Opening, word, openingOf, pickOf}
+use Rattle.readings.specs.Readings.{filed, readInto, readLog, Opening, openingOf, pickOf}
 use Rattle.read.specs.Answers.{wordOr6}
 use Rattle.calls.specs.Calls.{Call, formatOf}
 use Rattle.step.specs.Step.{Step, mediumAfter}
