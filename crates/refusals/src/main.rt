@@ -34,12 +34,6 @@ fn zero_byte(m: &mut [u8], at: usize) {
     }
 }
 
-// A medium formatted, whatever was on it: its state.
-fn fresh(m: &mut [u8]) -> State {
-    let t = trials::formatted(m);
-    t.state
-}
-
 // The number that recovery answers.
 fn recovered(m: &[u8]) -> u8 {
     let r = recover::recover(m);
@@ -54,21 +48,21 @@ fn short_medium() -> u8 {
 
 // 2: a whole page of kind 9.
 fn kind_9(m: &mut [u8]) -> u8 {
-    fresh(m);
+    trials::formatted(m);
     put_page(m, 1, 9, 2, 1000);
     recovered(m)
 }
 
 // 3: page 0 copied to page 1.
 fn copied_page(m: &mut [u8]) -> u8 {
-    fresh(m);
+    trials::formatted(m);
     copy_page(m);
     recovered(m)
 }
 
 // 5: a base with serial 1, nodes with serials 2 and 4.
 fn gap(m: &mut [u8]) -> u8 {
-    fresh(m);
+    trials::formatted(m);
     put_page(m, 1, 1, 2, 1000);
     put_page(m, 2, 1, 4, 1000);
     recovered(m)
@@ -83,14 +77,14 @@ fn base_at_itself() -> u8 {
 
 // 7: a state of 4 blocks with a medium of 5.
 fn other_medium(m: &mut [u8]) -> u8 {
-    let s = fresh(m);
+    let s = trials::formatted(m).state;
     let b = begin::commit(&[255u8; 20480], s);
     b.number
 }
 
 // 8: an append begun, then a commit.
 fn begun_twice(m: &mut [u8]) -> u8 {
-    let s = fresh(m);
+    let s = trials::formatted(m).state;
     let a = begin::append(m, s, &[5], &[1000]);
     let s = a.state;
     let b = begin::commit(m, s);
@@ -99,7 +93,7 @@ fn begun_twice(m: &mut [u8]) -> u8 {
 
 // 9: a step after recovery.
 fn none_pending(m: &mut [u8]) -> u8 {
-    fresh(m);
+    trials::formatted(m);
     let r = recover::recover(m);
     let s = r.state;
     let t = trials::turn(m, s);
@@ -108,14 +102,14 @@ fn none_pending(m: &mut [u8]) -> u8 {
 
 // 10 and 11: an append of these keys and words after format.
 fn appended(m: &mut [u8], keys: &[u16], words: &[u64]) -> u8 {
-    let s = fresh(m);
+    let s = trials::formatted(m).state;
     let b = begin::append(m, s, keys, words);
     b.number
 }
 
 // 192 valves set.
 fn most_valves(m: &mut [u8]) -> State {
-    let s = fresh(m);
+    let s = trials::formatted(m).state;
     let u = trials::set_valves(m, s, 0, 96);
     let s = u.state;
     let w = trials::set_valves(m, s, 96, 96);
@@ -131,7 +125,7 @@ fn valve_193(m: &mut [u8]) -> u8 {
 
 // 13: the 48th group of one page.
 fn group_48(m: &mut [u8]) -> u8 {
-    let s = fresh(m);
+    let s = trials::formatted(m).state;
     let f = trials::fill(m, s);
     f.number
 }
@@ -148,14 +142,14 @@ fn last_serial() -> u8 {
 
 // 15: block 0 after format.
 fn fresh_block(m: &mut [u8]) -> u8 {
-    let s = fresh(m);
+    let s = trials::formatted(m).state;
     let b = begin::collect(m, s, 0);
     b.number
 }
 
 // 16: a byte of the page due zeroed.
 fn zeroed_byte(m: &mut [u8]) -> u8 {
-    let s = fresh(m);
+    let s = trials::formatted(m).state;
     let b = begin::append(m, s, &[5], &[1000]);
     let s = b.state;
     zero_byte(m, 256);
@@ -165,7 +159,7 @@ fn zeroed_byte(m: &mut [u8]) -> u8 {
 
 // 17: two places for three changes.
 fn short_lists(m: &mut [u8]) -> u8 {
-    let s = fresh(m);
+    let s = trials::formatted(m).state;
     trials::appended(m, s, &[5, 7, 5], &[1000, 20, 30]);
     let mut keys = [0u16; 2];
     let mut words = [0u64; 2];
@@ -175,7 +169,7 @@ fn short_lists(m: &mut [u8]) -> u8 {
 
 // 18: a valve that is not set.
 fn unset_valve(m: &mut [u8]) -> u8 {
-    let s = fresh(m);
+    let s = trials::formatted(m).state;
     let r = read::opening(m, s, 5);
     r.number
 }
