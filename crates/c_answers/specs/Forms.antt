@@ -1,4 +1,4 @@
--- What the answers say that the exports alone have: recovery without its log, the place of a page, the survey in one list.
+-- What the answers for C say that the library's own do not: recovery without its log, the place of a page, the survey in one list.
 use mathlib.Core.Path.{_≡_}
 use mathlib.Core.Bool.{cond}
 use mathlib.Core.List.{List, []}
@@ -7,13 +7,14 @@ use lib.ListN.{length, getD}
 use lib.Dec.{eqb, leb}
 use Rattle.lists.specs.Lists.{table}
 use Rattle.codec.specs.Codec.{part}
-use Rattle.flash.specs.Medium.{pageAt}
+use Rattle.flash.specs.Medium.{views, pageAt}
+use Rattle.state.specs.declared.State.{State}
 use Rattle.state.specs.State.{Held, meaning}
-use Rattle.recovery.specs.Recovery.{Recovery, refused, recovered}
-use Rattle.readings.specs.Readings.{Survey, counts}
-use Rattle.journal_c.specs.declared.VjRecovered.{VjRecovered}
-use Rattle.journal_c.specs.declared.VjPart.{VjPart}
-use Rattle.journal_c.specs.declared.VjSurvey.{VjSurvey}
+use Rattle.recovery.specs.Recovery.{Recovery, refused, recovered, recover}
+use Rattle.readings.specs.Readings.{Survey, counts, surveyOf}
+use Rattle.c_answers.specs.declared.VjRecovered.{VjRecovered}
+use Rattle.c_answers.specs.declared.VjPart.{VjPart}
+use Rattle.c_answers.specs.declared.VjSurvey.{VjSurvey}
 
 -- ---- recovery: a refusal, or the state
 
@@ -29,6 +30,10 @@ found (recovered log s) = state s
 -- what the call's answer says
 unfoldable pub foundBy : VjRecovered → Found
 foundBy r = cond (eqb (r .number) 0) (state (meaning (r .state))) (turnedBack (r .number))
+
+-- what `recovered` promises of a medium m
+abbrev pub Finds : List ℕ → VjRecovered → Type 0
+Finds m r = foundBy r ≡ found (recover (length m) (views m))
 
 -- ---- pages
 
@@ -53,3 +58,7 @@ joinedIn (counts rows) = inOne (joined rows)
 
 unfoldable pub surveyBy : VjSurvey → Joined
 surveyBy r = cond (eqb (r .number) 0) (inOne (r .counts)) (Joined.turnedBack (r .number))
+
+-- what `survey` promises of a medium m and a state s
+abbrev pub SurveysInOne : List ℕ → State → VjSurvey → Type 0
+SurveysInOne m s r = surveyBy r ≡ joinedIn (surveyOf (length m) (views m) (meaning s))

@@ -1,4 +1,4 @@
--- Laws of the exports, in the shapes that the code's proofs ask.
+-- Laws of the answers for C, in the shapes that the code's proofs ask.
 use mathlib.Core.Path.{_≡_, refl, sym, ap, _∙_}
 use mathlib.Core.List.{List, []}
 use Prim.Native.Nat.{ℕ, _+_, _*_, _/_, _%_, _≤_, _<_}
@@ -19,7 +19,7 @@ use Rattle.recover.specs.Told as told
 use Rattle.recover.specs.Told.{Told, tell, Recovers}
 use Rattle.read.specs.Answers.{surveyedOf}
 use Rattle.readings.specs.Readings.{surveyOf}
-use Rattle.journal_c.specs.Exports.{Found, found, foundBy, IsPage, joined, joinedIn, surveyBy}
+use Rattle.c_answers.specs.Forms.{Found, found, foundBy, IsPage, joined, joinedIn, surveyBy}
 
 -- ---- recovery
 

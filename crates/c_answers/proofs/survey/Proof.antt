@@ -1,0 +1,16 @@
+use Rattle.c_answers.proofs.Laws.{survey-tells}
+use borrow.Author.Needs.{needs}
+use Rattle.c_answers.proofs.survey.Statement.{statement}
+use Rattle.c_answers.proofs.survey.Tie as tie
+
+survey-requires : tie.Need-survey-requires
+survey-requires c κs = search needs
+
+joined-requires : tie.Need-joined-requires
+joined-requires c κs = search needs
+
+returns : tie.Need-returns
+returns c = search survey-tells
+
+pub survey-spec : {M : Type 1} → statement M
+survey-spec = tie.close (tie.spec survey-requires joined-requires returns)

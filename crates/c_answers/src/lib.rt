@@ -1,0 +1,80 @@
+// Answers in the forms that C takes, where the library's own is none: recovery without its log, the survey in one list, the place of a page.
+ghost use mathlib.Core.Path.{_≡_};
+ghost use Rattle.c_answers.specs.Forms.{Finds, IsPage, joined as joined-of, SurveysInOne};
+use state::State;
+
+// What recovery found: 0 and the state, or a refusal's number. What the state of a refusal holds means nothing.
+#[repr(C)]
+pub struct VjRecovered {
+    pub number: u8,
+    pub state: State,
+}
+
+// A part of the medium.
+#[repr(C)]
+pub struct VjPart {
+    pub offset: usize,
+    pub length: usize,
+}
+
+// 0 and the survey, its sixteen rows of three counts one after another, or a refusal's number.
+#[repr(C)]
+pub struct VjSurvey {
+    pub number: u8,
+    pub counts: [u16; 48],
+}
+
+// Recovery of a medium of any length.
+pub fn recovered(m: &[u8]) -> VjRecovered
+    ensures { λ r. ⌜ Finds (now (m .entry)) r ⌝ }
+{
+    let r = recover::recover(m);
+    let state = r.state;
+    VjRecovered {
+        number: r.number,
+        state: state,
+    }
+}
+
+// Where page p stands in the medium; nothing at 0 where the medium lacks one of its bytes.
+pub fn page_place(m: &[u8], p: usize) -> VjPart
+    ensures { λ r. ⌜ IsPage (now (m .entry)) p r ⌝ }
+{
+    if p < m.len() / 256 {
+        return VjPart {
+            offset: 256 * p,
+            length: 256,
+        };
+    }
+    VjPart {
+        offset: 0,
+        length: 0,
+    }
+}
+
+// Sixteen rows of three counts, one row after another.
+fn joined(rows: [[u16; 3]; 16]) -> [u16; 48]
+    ensures { λ r. ⌜ r ≡ joined-of rows ⌝ }
+{
+    let mut all = [0u16; 48];
+    let mut i: usize = 0;
+    while i < 48 {
+        let row = rows[i / 3];
+        all[i] = row[i % 3];
+        i += 1;
+    }
+    all
+}
+
+// The survey of the blocks, for a lent state.
+pub fn survey(m: &[u8], s: State) -> VjSurvey
+    ensures { λ r. ⌜ SurveysInOne (now (m .entry)) s r ⌝ }
+{
+    let mut number = 0u8;
+    let rows = read::survey(m, s, &mut number);
+    let counts = joined(rows);
+    VjSurvey {
+        number: number,
+        counts: counts,
+    }
+}
