@@ -163,7 +163,7 @@ fn short_lists(m: &mut [u8]) -> u8 {
     trials::appended(m, s, &[5, 7, 5], &[1000, 20, 30]);
     let mut keys = [0u16; 2];
     let mut words = [0u64; 2];
-    let r = read::log(m, &mut keys, &mut words);
+    let r = filing::log(m, &mut keys, &mut words);
     r.number
 }
 

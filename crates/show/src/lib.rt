@@ -109,7 +109,7 @@ pub fn medium(m: &[u8]) {
     }
     let mut keys = no_keys();
     let mut words = no_words();
-    let logged = read::log(m, &mut keys, &mut words);
+    let logged = filing::log(m, &mut keys, &mut words);
     if logged.number != 0 {
         refused(logged.number);
         return;
