@@ -2,7 +2,9 @@
 ghost use mathlib.Core.Path.{_≡_};
 ghost use Prim.Native.Nat.{_≤_};
 ghost use lib.ListN.{length};
-use state::State;
+use index::Found;
+use lists::Cell;
+use lists::Cells;
 
 // Text as it is.
 pub fn text(s: &[u8]) {
@@ -74,27 +76,30 @@ fn changes(keys: &[u16], words: &[u64], n: usize) {
     }
 }
 
-// A valve that is set, with its word.
-fn setting(m: &[u8], s: State, valve: u16) {
-    let r = read::opening(m, s, valve);
-    if r.number != 0 {
-        refused(r.number);
+// A valve that is set, with the word at its address.
+fn setting(m: &[u8], place: Cell) {
+    let found = nodes::word_at(m, place);
+    let Found::At(word) = found else {
+        refused(6);
         return;
-    }
-    number(valve as u64);
-    line(b" ", r.word);
+    };
+    number(place.key as u64);
+    line(b" ", word);
 }
 
 // Each valve that is set.
-fn settings(m: &[u8], s: State)
-    requires { ⌜ s .index .count ≤ 192 ⌝ }
+fn settings(m: &[u8], index: Cells)
+    requires { ⌜ index .count ≤ 192 ⌝ }
 {
-    let index = s.index;
     let n = index.count;
     line(b"set ", n as u64);
     let mut i: usize = 0;
     while i < n {
-        setting(m, s, index.keys[i]);
+        let place = Cell {
+            key: index.keys[i],
+            val: index.vals[i],
+        };
+        setting(m, place);
         i += 1;
     }
 }
@@ -115,5 +120,5 @@ pub fn medium(m: &[u8]) {
         return;
     }
     changes(&keys, &words, logged.count);
-    settings(m, r.state);
+    settings(m, r.state.index);
 }

@@ -4,10 +4,10 @@ use Rattle.show.proofs.settings.Statement.{statement}
 use Rattle.show.proofs.settings.Tie as tie
 
 abbrev Inv-loop : tie.InvT-loop
-Inv-loop m s index n i₀ i = i ≤ n
+Inv-loop m index n i₀ i = i ≤ n
 
 abbrev μ-loop : tie.MeasureT-loop
-μ-loop m s index n i₀ i = n - i
+μ-loop m index n i₀ i = n - i
 
 slice-aggregate-line : tie.Need-slice-aggregate-line Inv-loop μ-loop
 slice-aggregate-line c = search needs
@@ -18,11 +18,17 @@ line-requires c κs = search needs
 loop-holds : tie.Need-loop-holds Inv-loop μ-loop
 loop-holds c = search needs
 
-mul-setting : tie.Need-mul-setting Inv-loop μ-loop
-mul-setting c = search needs
+mul-t13 : tie.Need-mul-t13 Inv-loop μ-loop
+mul-t13 c = search needs
 
-element-copy-out-setting : tie.Need-element-copy-out-setting Inv-loop μ-loop
-element-copy-out-setting c = search needs
+element-copy-out-t16 : tie.Need-element-copy-out-t16 Inv-loop μ-loop
+element-copy-out-t16 c = search needs
+
+mul-t17 : tie.Need-mul-t17 Inv-loop μ-loop
+mul-t17 c = search needs
+
+element-copy-out-t20 : tie.Need-element-copy-out-t20 Inv-loop μ-loop
+element-copy-out-t20 c = search needs
 
 setting-requires : tie.Need-setting-requires Inv-loop μ-loop
 setting-requires c κs = search needs
@@ -48,8 +54,10 @@ settings-spec =
     slice-aggregate-line
     line-requires
     loop-holds
-    mul-setting
-    element-copy-out-setting
+    mul-t13
+    element-copy-out-t16
+    mul-t17
+    element-copy-out-t20
     setting-requires
     add-i
     loop-less
