@@ -3,6 +3,22 @@ ghost use Prim.Native.Nat.{_≤_};
 use show::line;
 use show::text;
 use state::State;
+use trials::APPEND;
+use trials::BYTE;
+use trials::COLLECT;
+use trials::COMMIT;
+use trials::FINISH;
+use trials::FORMAT;
+use trials::RECOVER;
+use trials::STEP;
+use trials::Trial;
+use trials::VALVES;
+
+// A word of the output, then a number, within a line.
+fn part(name: &[u8], n: u64) {
+    text(name);
+    show::number(n);
+}
 
 // The check of a page, and what the page is.
 fn about(s: &[u8]) {
@@ -44,21 +60,109 @@ fn start(s: &[u8]) {
     text(b"\n");
 }
 
-// The test pages.
-fn pages() {
-    let base = trials::base(1);
+// The empty base.
+fn base() {
+    let mut m = [255u8; 16384];
+    trials::play(&mut m, &[FORMAT, FINISH]);
     text(b"empty base, serial 1:");
-    start(&base);
-    about(&base);
-    let node = trials::one(1, 2, 5, 1000);
-    text(b"kind 1, flags 3, n 1, serial 2, valve 5, word 1000:\n");
-    about(&node);
-    let mut torn = node;
-    torn[16] = 255;
-    text(b"the same with byte 16 left FFh:\n");
-    about(&torn);
-    text(b"all FFh:\n");
-    about(&[255u8; 256]);
+    start(flash::page(&m, 0));
+    about(flash::page(&m, 0));
+}
+
+// Page p of what a list of calls leaves.
+fn page_of(name: &[u8], calls: &[u64], p: usize) {
+    let mut m = [255u8; 16384];
+    trials::play(&mut m, calls);
+    text(name);
+    about(flash::page(&m, p));
+}
+
+// A node, which is page 1 of its medium, the node torn, and a blank page.
+fn pages() {
+    page_of(
+        b"kind 1, flags 3, n 1, serial 2, valve 5, word 1000:\n",
+        &[FORMAT, FINISH, APPEND, 1, 5, 1000, FINISH],
+        1,
+    );
+    page_of(
+        b"the same with byte 16 left FFh:\n",
+        &[FORMAT, FINISH, APPEND, 1, 5, 1000, FINISH, BYTE, 272, 255],
+        1,
+    );
+    page_of(b"all FFh:\n", &[], 0);
+}
+
+// The pages of an append of n entries.
+fn append_pages(n: u64) {
+    let mut m = [255u8; 16384];
+    let t = trials::play(&mut m, &[FORMAT, FINISH, VALVES, n, 0, FINISH]);
+    show::number(n);
+    if t.number != 0 {
+        show::answer(b" entries: ", t.number);
+        return;
+    }
+    line(b" entries: pages ", t.steps as u64);
+}
+
+// The pages of a commit of `low` valves from 0 on and `high` from 96 on. An append of none is refused, and hands the state back.
+fn commit_pages(low: u64, high: u64) {
+    let mut m = [255u8; 16384];
+    let t = trials::play(
+        &mut m,
+        &[
+            FORMAT,
+            FINISH,
+            VALVES,
+            low,
+            0,
+            FINISH,
+            VALVES,
+            high,
+            96,
+            FINISH,
+            COMMIT,
+            FINISH,
+        ],
+    );
+    show::number(t.state.index.count as u64);
+    line(b" valves: pages of a commit ", t.steps as u64);
+}
+
+// The log and the settings that a list of calls leaves.
+fn left(name: &[u8], calls: &[u64]) {
+    let mut m = [255u8; 16384];
+    trials::play(&mut m, calls);
+    text(name);
+    show::medium(&m);
+}
+
+// An unset valve is removed: the log grows, the settings stay. A valve twice in a group.
+fn groups() {
+    left(
+        b"valve 7 set to 20:\n",
+        &[FORMAT, FINISH, APPEND, 1, 7, 20, FINISH],
+    );
+    left(
+        b"valve 5, which is not set, removed:\n",
+        &[
+            FORMAT,
+            FINISH,
+            APPEND,
+            1,
+            7,
+            20,
+            FINISH,
+            APPEND,
+            1,
+            32773,
+            0,
+            FINISH,
+        ],
+    );
+    left(
+        b"valve 5 twice in a group:\n",
+        &[FORMAT, FINISH, APPEND, 3, 5, 7, 5, 1000, 20, 30, FINISH],
+    );
 }
 
 // The length of a medium in bytes.
@@ -69,114 +173,58 @@ fn lengths() {
     show::answer(b"format of 69632 bytes: ", longer.number);
 }
 
-// A medium formatted, whatever was on it: its state.
-fn fresh(m: &mut [u8]) -> State {
-    let t = trials::formatted(m);
-    t.state
-}
-
-// The pages of an append of n entries.
-fn append_pages(m: &mut [u8], n: usize)
-    requires { ⌜ n ≤ 97 ⌝ }
-{
-    let s = fresh(m);
-    let u = trials::set_valves(m, s, 0, n);
-    show::number(n as u64);
-    if u.number != 0 {
-        show::answer(b" entries: ", u.number);
-        return;
-    }
-    line(b" entries: pages ", u.steps as u64);
-}
-
-// The pages of a commit of `low` valves from 0 on and `high` from 96 on. An append of none is refused, and hands the state back.
-fn commit_pages(m: &mut [u8], low: usize, high: usize)
-    requires { ⌜ (low ≤ 97) × (high ≤ 97) ⌝ }
-{
-    let s = fresh(m);
-    let u = trials::set_valves(m, s, 0, low);
-    let s = u.state;
-    let w = trials::set_valves(m, s, 96, high);
-    let s = w.state;
-    let n = s.index.count;
-    let x = trials::committed(m, s);
-    show::number(n as u64);
-    line(b" valves: pages of a commit ", x.steps as u64);
-}
-
-// Valve 7 set after format.
-fn valve_7(m: &mut [u8]) -> State {
-    let s = fresh(m);
-    let u = trials::appended(m, s, &[7], &[20]);
-    u.state
-}
-
-// An unset valve is removed: the log grows, the settings stay.
-fn unset_removed(m: &mut [u8]) {
-    let s = valve_7(m);
-    text(b"valve 7 set to 20:\n");
-    show::medium(m);
-    trials::appended(m, s, &[32773], &[0]);
-    text(b"valve 5, which is not set, removed:\n");
-    show::medium(m);
-}
-
-// A valve twice in a group.
-fn twice(m: &mut [u8]) {
-    let s = fresh(m);
-    trials::appended(m, s, &[5, 7, 5], &[1000, 20, 30]);
-    text(b"valve 5 twice in a group:\n");
-    show::medium(m);
-}
-
-// The next append after a cut.
-fn next_append(m: &mut [u8], s: State) {
-    let u = trials::appended(m, s, &[5], &[1000]);
-    let p = u.touched;
-    text(b"the next append starts in block ");
-    show::number((p / 16) as u64);
-    text(b", page ");
-    show::number((p % 16) as u64);
-    line(b", serial ", flash::page_serial(m, p));
-}
-
-// The first page of 30 entries.
-fn first_page(m: &mut [u8]) {
-    let s = fresh(m);
-    let b = trials::begin_valves(m, s, 0, 30);
-    let s = b.state;
-    let u = trials::turn(m, s);
-    line(b"30 entries cut after page ", u.touched as u64);
-}
-
 // 30 entries, cut after their first page.
-fn cut(m: &mut [u8]) {
-    first_page(m);
-    show::medium(m);
-    let r = recover::recover(m);
-    let s = r.state;
-    next_append(m, s);
+fn cut() {
+    let mut m = [255u8; 16384];
+    let t = trials::play(&mut m, &[FORMAT, FINISH, VALVES, 30, 0, STEP]);
+    line(b"30 entries cut after page ", t.touched as u64);
+    show::medium(&m);
 }
 
-// The pages that are available.
-fn available(m: &[u8], s: State) {
-    let r = read::available(m, s);
-    if r.number != 0 {
-        show::refused(r.number);
-        return;
-    }
-    show::number(r.pages as u64);
+// The next append after the cut.
+fn next_append() {
+    let mut m = [255u8; 16384];
+    let t = trials::play(
+        &mut m,
+        &[
+            FORMAT,
+            FINISH,
+            VALVES,
+            30,
+            0,
+            STEP,
+            RECOVER,
+            APPEND,
+            1,
+            5,
+            1000,
+            FINISH,
+        ],
+    );
+    let p = t.touched;
+    part(b"the next append starts in block ", (p / 16) as u64);
+    part(b", page ", (p % 16) as u64);
+    line(b", serial ", flash::page_serial(&m, p));
+}
+
+// The pages that are available after format.
+fn available() {
+    let mut m = [255u8; 16384];
+    let t = trials::play(&mut m, &[FORMAT, FINISH]);
+    let r = read::available(&m, t.state);
+    part(b"format of 4 blocks: ", r.pages as u64);
     text(b" available\n");
 }
 
-// One-page groups until one is refused.
-fn filled(m: &mut [u8]) {
-    let s = fresh(m);
-    text(b"format of 4 blocks: ");
-    available(m, s);
-    let f = trials::fill(m, s);
-    line(b"one-page groups that pass: ", f.groups as u64);
-    show::answer(b"the next: ", f.number);
+// One-page groups until one is refused: the base has serial 1, and each group takes the next.
+fn filled() {
+    let mut m = [255u8; 16384];
+    let t = trials::play(&mut m, &trials::groups());
+    let next = t.state.head.serial;
+    if 2 <= next {
+        line(b"one-page groups that pass: ", next - 2);
+    }
+    show::answer(b"the next: ", t.number);
 }
 
 // The picker's choice.
@@ -195,10 +243,8 @@ fn picked(m: &[u8], s: State) {
 
 // A row of the survey.
 fn row(whole: u16, clean: u16, spoilt: u16) {
-    text(b"whole ");
-    show::number(whole as u64);
-    text(b", clean ");
-    show::number(clean as u64);
+    part(b"block 0: whole ", whole as u64);
+    part(b", clean ", clean as u64);
     line(b", spoilt ", spoilt as u64);
 }
 
@@ -206,64 +252,86 @@ fn row(whole: u16, clean: u16, spoilt: u16) {
 fn first_block(m: &[u8], s: State) {
     let mut number: u8 = 0;
     let rows = read::survey(m, s, &mut number);
-    if number != 0 {
-        show::refused(number);
-        return;
-    }
     let first = rows[0];
-    text(b"block 0: ");
     row(first[0], first[1], first[2]);
     picked(m, s);
 }
 
-// A commit into the next block, and the collection of block 0.
-fn renewed(m: &mut [u8], s: State) {
-    let c = trials::committed(m, s);
-    let s = c.state;
-    line(b"after a commit to page ", c.touched as u64);
-    show::medium(m);
-    first_block(m, s);
-    let d = trials::collected(m, s, 0);
-    let s = d.state;
-    line(b"after the collection of block 0, steps ", d.steps as u64);
-    show::medium(m);
-    first_block(m, s);
+// The document's sample, {5 to 1000, 7 to 20}, {remove 5}; then a recovery, which closes the head, a commit and the collection of block 0:
+// the first n numbers of these calls.
+fn sample(m: &mut [u8], n: usize) -> Trial
+    requires { ⌜ n ≤ 20 ⌝ }
+{
+    let calls = [
+        FORMAT,
+        FINISH,
+        APPEND,
+        2,
+        5,
+        7,
+        1000,
+        20,
+        FINISH,
+        APPEND,
+        1,
+        32773,
+        0,
+        FINISH,
+        RECOVER,
+        COMMIT,
+        FINISH,
+        COLLECT,
+        0,
+        FINISH,
+    ];
+    trials::play(m, &calls[..n])
 }
 
-// {5→1000, 7→20}, {remove 5}.
-fn two_groups(m: &mut [u8]) {
-    let s = fresh(m);
-    let u = trials::appended(m, s, &[5, 7], &[1000, 20]);
-    let s = u.state;
-    trials::appended(m, s, &[32773], &[0]);
-}
-
-// The document's sample; then a recovery, which closes the head, a commit and a collection.
-fn sample(m: &mut [u8]) {
-    two_groups(m);
+// As far as the recovery.
+fn recovered() {
+    let mut m = [255u8; 16384];
+    let t = sample(&mut m, 15);
     text(b"{5 to 1000, 7 to 20}, {remove 5}:\n");
-    show::medium(m);
-    let r = recover::recover(m);
-    let s = r.state;
-    first_block(m, s);
-    renewed(m, s);
+    show::medium(&m);
+    first_block(&m, t.state);
+}
+
+// As far as the commit, into the next block.
+fn committed() {
+    let mut m = [255u8; 16384];
+    let t = sample(&mut m, 17);
+    line(b"after a commit to page ", t.touched as u64);
+    show::medium(&m);
+    first_block(&m, t.state);
+}
+
+// And the collection.
+fn collected() {
+    let mut m = [255u8; 16384];
+    let t = sample(&mut m, 20);
+    line(b"after the collection of block 0, steps ", t.steps as u64);
+    show::medium(&m);
+    first_block(&m, t.state);
 }
 
 fn main() {
-    let mut m = trials::blank();
+    base();
     pages();
-    append_pages(&mut m, 24);
-    append_pages(&mut m, 25);
-    append_pages(&mut m, 96);
-    append_pages(&mut m, 97);
-    commit_pages(&mut m, 0, 0);
-    commit_pages(&mut m, 24, 0);
-    commit_pages(&mut m, 25, 0);
-    commit_pages(&mut m, 96, 96);
-    unset_removed(&mut m);
-    twice(&mut m);
+    append_pages(24);
+    append_pages(25);
+    append_pages(96);
+    append_pages(97);
+    commit_pages(0, 0);
+    commit_pages(24, 0);
+    commit_pages(25, 0);
+    commit_pages(96, 96);
+    groups();
     lengths();
-    cut(&mut m);
-    filled(&mut m);
-    sample(&mut m);
+    cut();
+    next_append();
+    available();
+    filled();
+    recovered();
+    committed();
+    collected();
 }

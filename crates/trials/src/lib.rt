@@ -1,27 +1,42 @@
-// Operations run to their end, for the programs that run 01's examples.
+// Calls of the journal as a list of numbers, played on a lent medium, for the programs that run 01's examples.
 ghost use mathlib.Core.Path.{_≡_};
-ghost use mathlib.Core.List.{[], _∷_};
-ghost use Prim.Native.Nat.{_≤_};
-ghost use lib.ListN.{length, take, replicate};
-ghost use Rattle.lists.specs.Cells.{cell};
-ghost use Rattle.page.specs.Pages.{page};
-ghost use Rattle.page.specs.Layout.{encode};
-ghost use Rattle.state.specs.State.{meaning};
-ghost use Rattle.calls.specs.Calls.{formatOf};
-ghost use Rattle.begin.specs.Begun.{toldOf, asFormatted, Appends};
-ghost use Rattle.trials.specs.Runs.{wentAs, turned, runAs, run, carried as carried-on, appendRun, commitRun, collectRun, Formats, valvesFrom, valvesRun, fillAs, fill as fill-up};
+ghost use Prim.Native.Nat.{_<_, _≤_};
+ghost use lib.ListN.{length};
 use begin::Begun;
 use state::State;
 
-// What a step did: a refusal's number or 0, the page or block it touched, whether the operation is over, and the state.
-pub struct Turned {
-    pub number: u8,
-    pub touched: usize,
-    pub over: bool,
-    pub state: State,
-}
+// Formatting begins.
+pub const FORMAT: u64 = 1;
 
-// How an operation went: a refusal's number or 0, the steps tried, what the last one touched, and the state.
+// APPEND, n, n keys, n words: an append begins, of 97 entries at most.
+pub const APPEND: u64 = 2;
+
+// A commit begins.
+pub const COMMIT: u64 = 3;
+
+// COLLECT, block: a collection begins.
+pub const COLLECT: u64 = 4;
+
+// One step of the pending operation, unless the call before it was refused.
+pub const STEP: u64 = 5;
+
+// Recovery: its state takes the place of the last.
+pub const RECOVER: u64 = 7;
+
+// The same as STEP until the operation is over, 20 times at most: formatting of 16 blocks takes 17.
+pub const FINISH: u64 = 10;
+
+// VALVES, n, low: an append begins that sets n valves from `low` on to 0.
+pub const VALVES: u64 = 12;
+
+// BYTE, at, value: a byte of the medium changes.
+pub const BYTE: u64 = 22;
+
+// PUT, page, kind, serial, n, word: a page is programmed that begins and ends a group, of n entries, 0 or 1, that set valve 5.
+pub const PUT: u64 = 15;
+
+// How the last call of a list went: the number that refused it, or 0; the steps it tried; the page or block that the last of them touched; and
+// the state.
 pub struct Trial {
     pub number: u8,
     pub steps: usize,
@@ -29,192 +44,247 @@ pub struct Trial {
     pub state: State,
 }
 
-// How many groups passed, and the number that refused the next.
-pub struct Filled {
-    pub groups: usize,
-    pub number: u8,
-}
-
-// A blank medium of 4 blocks.
-pub fn blank() -> [u8; 16384]
-    ensures { λ r. ⌜ r ≡ replicate 16384 255 ⌝ }
-{
-    [255u8; 16384]
-}
-
-// A page of one entry, begun and ended.
-pub fn one(kind: u8, serial: u64, key: u16, word: u64) -> [u8; 256]
-    ensures { λ r. ⌜ r ≡ encode (page kind 3 serial (cell key word ∷ [])) ⌝ }
-{
-    let keys = [key; 1];
-    let words = [word; 1];
-    build::page_bytes(kind, 3, serial, &keys, &words)
-}
-
-// The page of an empty base.
-pub fn base(serial: u64) -> [u8; 256]
-    ensures { λ r. ⌜ r ≡ encode (page 2 3 serial []) ⌝ }
-{
-    build::part_bytes(2, 3, serial, &[0u16; 1], &[0u64; 1], 0, 0)
-}
-
-// One step of the pending operation. A refusal ends it.
-pub fn turn(m: &mut [u8], s: State) -> Turned
-    ensures { λ r. ⌜ wentAs r (now (m .exit)) ≡ turned (now (m .entry)) (meaning s) ⌝ }
-{
-    let r = advance::step(m, s);
-    let state = r.state;
-    if r.number != 0 {
-        return Turned {
-            number: r.number,
-            touched: 0,
-            over: true,
-            state: state,
-        };
+// The number at place i of a list, 0 past its end.
+fn at(calls: &[u64], i: usize) -> u64 {
+    if i < calls.len() {
+        return calls[i];
     }
-    Turned {
-        number: 0,
-        touched: r.at,
-        over: r.finished,
+    0
+}
+
+// How many numbers a call has after its code, of which n is the first.
+fn numbers(code: u64, n: u64) -> usize
+    ensures { λ r. ⌜ r ≤ 195 ⌝ }
+{
+    if code == APPEND {
+        return 1 + 2 * ((n % 98) as usize);
+    }
+    if code == COLLECT {
+        return 1;
+    }
+    if code < FINISH {
+        return 0;
+    }
+    (code % 10) as usize
+}
+
+// Where the call at place i ends; a list that is cut short ends it.
+fn end(calls: &[u64], i: usize) -> usize
+    requires { ⌜ i < length (now calls) ⌝ }
+    ensures { λ r. ⌜ (i < r) × (r ≤ length (now (calls .entry))) ⌝ }
+{
+    let n = numbers(calls[i], at(calls, i + 1));
+    if n < calls.len() - i {
+        return i + 1 + n;
+    }
+    calls.len()
+}
+
+// Key i of an append.
+fn key(call: &[u64], i: usize) -> u16
+    requires { ⌜ i < 97 ⌝ }
+{
+    if at(call, 0) == VALVES {
+        return ((at(call, 2) % 32768) as u16) + (i as u16);
+    }
+    (at(call, 2 + i) % 65536) as u16
+}
+
+// The keys of an append.
+fn keys(call: &[u64]) -> [u16; 97]
+    ensures { λ r. ⌜ length r ≡ 97 ⌝ }
+{
+    let mut all = [0u16; 97];
+    let mut i: usize = 0;
+    while i < 97 {
+        all[i] = key(call, i);
+        i += 1;
+    }
+    all
+}
+
+// The words of an append of n entries; those that the call lacks are 0.
+fn words(call: &[u64], n: usize) -> [u64; 97]
+    requires { ⌜ n ≤ 97 ⌝ }
+    ensures { λ r. ⌜ length r ≡ 97 ⌝ }
+{
+    let mut all = [0u64; 97];
+    let mut i: usize = 0;
+    while i < 97 {
+        all[i] = at(call, 2 + n + i);
+        i += 1;
+    }
+    all
+}
+
+// An append.
+fn append(m: &[u8], s: State, call: &[u64], n: usize) -> Begun
+    requires { ⌜ n ≤ 97 ⌝ }
+{
+    let keys = keys(call);
+    let words = words(call, n);
+    begin::append(m, s, &keys[..n], &words[..n])
+}
+
+// Recovery.
+fn recovered(m: &[u8]) -> Begun {
+    let r = recover::recover(m);
+    let state = r.state;
+    Begun {
+        number: r.number,
         state: state,
     }
 }
 
-// Steps of the pending operation until it is over, 20 at most: formatting of 16 blocks takes 17.
-pub fn finish(m: &mut [u8], s: State) -> Trial
-    ensures { λ r. ⌜ runAs r (now (m .exit)) ≡ run 20 0 (now (m .entry)) (meaning s) ⌝ }
-{
-    let mut state = s;
-    let mut steps: usize = 0;
-    while steps < 20 {
-        let t = turn(m, state);
-        if t.over {
-            let last = t.state;
-            return Trial {
-                number: t.number,
-                steps: steps + 1,
-                touched: t.touched,
-                state: last,
-            };
-        }
-        state = t.state;
-        steps += 1;
+// A call that begins an operation, or recovery; any other code leaves all as it was.
+fn begun(m: &[u8], number: u8, s: State, call: &[u64]) -> Begun {
+    let code = at(call, 0);
+    let n = (at(call, 1) % 98) as usize;
+    if code == FORMAT {
+        return begin::format(m);
     }
+    if code == COMMIT {
+        return begin::commit(m, s);
+    }
+    if code == COLLECT {
+        return begin::collect(m, s, n);
+    }
+    if code == RECOVER {
+        return recovered(m);
+    }
+    if code == APPEND || code == VALVES {
+        return append(m, s, call, n);
+    }
+    Begun {
+        number: number,
+        state: s,
+    }
+}
+
+// An answer, before any step.
+fn told(b: Begun) -> Trial {
+    let state = b.state;
     Trial {
-        number: 0,
-        steps: steps,
+        number: b.number,
+        steps: 0,
         touched: 0,
         state: state,
     }
 }
 
-// The operation that a call began, to its end; or the call's refusal.
-fn carried(m: &mut [u8], b: Begun) -> Trial
-    ensures { λ r. ⌜ runAs r (now (m .exit)) ≡ carried-on (now (m .entry)) (toldOf b) ⌝ }
+// How many steps a code stands for.
+fn steps(code: u64) -> usize
+    ensures { λ r. ⌜ r ≤ 20 ⌝ }
 {
-    let state = b.state;
-    if b.number != 0 {
-        return Trial {
-            number: b.number,
-            steps: 0,
-            touched: 0,
-            state: state,
-        };
+    if code == STEP {
+        return 1;
     }
-    finish(m, state)
+    if code == FINISH {
+        return 20;
+    }
+    0
 }
 
-// Formatting.
-pub fn formatted(m: &mut [u8]) -> Trial
-    ensures { λ r. ⌜ Formats (now (m .entry)) (runAs r (now (m .exit))) (asFormatted (formatOf (length (now (m .entry))))) ⌝ }
+// A step after n others; none where one was refused, or where they ended the operation.
+fn go_on(m: &mut [u8], t: Trial, n: usize) -> Trial
+    requires { ⌜ n < 20 ⌝ }
 {
-    let b = begin::format(m);
-    carried(m, b)
+    if t.number != 0 {
+        return t;
+    }
+    let s = t.state;
+    if s.operation == state::IDLE {
+        if 0 < n {
+            return t;
+        }
+    }
+    let r = advance::step(m, s);
+    let state = r.state;
+    Trial {
+        number: r.number,
+        steps: n + 1,
+        touched: r.at,
+        state: state,
+    }
 }
 
-// An append.
-pub fn appended(m: &mut [u8], s: State, keys: &[u16], words: &[u64]) -> Trial
-    ensures { λ r. ⌜ runAs r (now (m .exit)) ≡ appendRun (now (m .entry)) (meaning s) (now (keys .entry)) (now (words .entry)) ⌝ }
+// At most so many steps.
+fn finish(m: &mut [u8], t: Trial, most: usize) -> Trial
+    requires { ⌜ most ≤ 20 ⌝ }
 {
-    let b = begin::append(m, s, keys, words);
-    carried(m, b)
+    let mut u = t;
+    let mut n: usize = 0;
+    while n < most {
+        u = go_on(m, u, n);
+        n += 1;
+    }
+    u
 }
 
-// A commit.
-pub fn committed(m: &mut [u8], s: State) -> Trial
-    ensures { λ r. ⌜ runAs r (now (m .exit)) ≡ commitRun (now (m .entry)) (meaning s) ⌝ }
-{
-    let b = begin::commit(m, s);
-    carried(m, b)
+// The page of a PUT.
+fn page(call: &[u64]) -> [u8; 256] {
+    let words = [at(call, 5); 1];
+    build::part_bytes(
+        (at(call, 2) % 256) as u8,
+        3,
+        at(call, 3),
+        &[5u16; 1],
+        &words,
+        0,
+        (at(call, 4) % 2) as usize,
+    )
 }
 
-// The collection of a block.
-pub fn collected(m: &mut [u8], s: State, block: usize) -> Trial
-    ensures { λ r. ⌜ runAs r (now (m .exit)) ≡ collectRun (now (m .entry)) (meaning s) block ⌝ }
-{
-    let b = begin::collect(m, s, block);
-    carried(m, b)
+// What a call does to the medium without the journal.
+fn damage(m: &mut [u8], call: &[u64]) {
+    let code = at(call, 0);
+    let i = at(call, 1) as usize;
+    if code == BYTE {
+        if i < m.len() {
+            m[i] = (at(call, 2) % 256) as u8;
+            return;
+        }
+        return;
+    }
+    if code != PUT {
+        return;
+    }
+    if i < m.len() / 256 {
+        flash::program(m, i, page(call));
+    }
 }
 
-// The 97 valves from `low` on.
-fn valves(low: u16) -> [u16; 97]
-    requires { ⌜ low ≤ 1000 ⌝ }
-    ensures { λ r. ⌜ r ≡ valvesFrom low ⌝ }
-{
-    let mut keys = [0u16; 97];
+// A call, after those that went as t.
+fn made(m: &mut [u8], t: Trial, call: &[u64]) -> Trial {
+    damage(m, call);
+    let s = t.state;
+    let u = told(begun(m, t.number, s, call));
+    finish(m, u, steps(at(call, 0)))
+}
+
+// Each call of a list in turn, also after a refusal. What the state is before the first FORMAT or RECOVER means nothing.
+pub fn play(m: &mut [u8], calls: &[u64]) -> Trial {
+    let mut t = told(begin::format(&[]));
     let mut i: usize = 0;
-    while i < 97 {
-        keys[i] = low + (i as u16);
+    while i < calls.len() {
+        let e = end(calls, i);
+        t = made(m, t, &calls[i..e]);
+        i = e;
+    }
+    t
+}
+
+// The calls that format a medium and append 48 groups of one page to it.
+pub fn groups() -> [u64; 194]
+    ensures { λ r. ⌜ length r ≡ 194 ⌝ }
+{
+    let group = [VALVES, 1, 5, FINISH];
+    let mut all = [FINISH; 194];
+    all[0] = FORMAT;
+    let mut i: usize = 2;
+    while i < 194 {
+        all[i] = group[(i - 2) % 4];
         i += 1;
     }
-    keys
-}
-
-// As many words of 0.
-fn no_words() -> [u64; 97]
-    ensures { λ r. ⌜ r ≡ replicate 97 0 ⌝ }
-{
-    [0u64; 97]
-}
-
-// An append begun that sets n of them to 0.
-pub fn begin_valves(m: &[u8], s: State, low: u16, n: usize) -> Begun
-    requires { ⌜ (low ≤ 1000) × (n ≤ 97) ⌝ }
-    ensures { λ r. ⌜ Appends (now (m .entry)) s (take n (valvesFrom low)) (take n (replicate 97 0)) r ⌝ }
-{
-    let keys = valves(low);
-    let words = no_words();
-    begin::append(m, s, &keys[..n], &words[..n])
-}
-
-// And to its end.
-pub fn set_valves(m: &mut [u8], s: State, low: u16, n: usize) -> Trial
-    requires { ⌜ (low ≤ 1000) × (n ≤ 97) ⌝ }
-    ensures { λ r. ⌜ runAs r (now (m .exit)) ≡ valvesRun (now (m .entry)) (meaning s) low n ⌝ }
-{
-    let b = begin_valves(m, s, low, n);
-    carried(m, b)
-}
-
-// Groups that set valve 5, until one is refused, 64 at most.
-pub fn fill(m: &mut [u8], s: State) -> Filled
-    ensures { λ r. ⌜ fillAs r (now (m .exit)) ≡ fill-up 64 0 (now (m .entry)) (meaning s) ⌝ }
-{
-    let mut state = s;
-    let mut groups: usize = 0;
-    while groups < 64 {
-        let t = set_valves(m, state, 5, 1);
-        if t.number != 0 {
-            return Filled {
-                groups: groups,
-                number: t.number,
-            };
-        }
-        state = t.state;
-        groups += 1;
-    }
-    Filled {
-        groups: groups,
-        number: 0,
-    }
+    all
 }

@@ -1,44 +1,36 @@
+use mathlib.Core.Path.{_≡_}
 use Prim.Native.Nat.{_-_}
-use Rattle.trials.proofs.Laws.{Running, run-start, run-next, run-last, run-end}
+use lib.ListN.{length}
 use borrow.Author.Needs.{needs}
 use Rattle.trials.proofs.finish.Statement.{statement}
 use Rattle.trials.proofs.finish.Tie as tie
 
 abbrev Inv-loop : tie.InvT-loop
-Inv-loop m₀ state₀ steps₀ m state steps = Running m₀ state₀ m state steps
+Inv-loop m₀ most u₀ n₀ m u n = length m ≡ length m₀
 
 abbrev μ-loop : tie.MeasureT-loop
-μ-loop m₀ state₀ steps₀ m state steps = 20 - steps
+μ-loop m₀ most u₀ n₀ m u n = most - n
 
 loop-holds : tie.Need-loop-holds Inv-loop μ-loop
-loop-holds c = search run-start
+loop-holds c = search needs
 
-turn-requires : tie.Need-turn-requires Inv-loop μ-loop
-turn-requires c κs = search needs
+go-on-requires : tie.Need-go-on-requires Inv-loop μ-loop
+go-on-requires c κs = search needs
 
-add-t10 : tie.Need-add-t10 Inv-loop μ-loop
-add-t10 c = search needs
-
-same-length : tie.Need-same-length Inv-loop μ-loop
-same-length c = search needs
-
-returns : tie.Need-returns Inv-loop μ-loop
-returns c = search run-last
-
-add-steps : tie.Need-add-steps Inv-loop μ-loop
-add-steps c = search needs
+add-n : tie.Need-add-n Inv-loop μ-loop
+add-n c = search needs
 
 loop-less : tie.Need-loop-less Inv-loop μ-loop
 loop-less c = search needs
 
 loop-again : tie.Need-loop-again Inv-loop μ-loop
-loop-again c = search run-next
+loop-again c = search needs
 
-same-length-2 : tie.Need-same-length-2 Inv-loop μ-loop
-same-length-2 c = search needs
+same-length : tie.Need-same-length Inv-loop μ-loop
+same-length c = search needs
 
-returns-2 : tie.Need-returns-2 Inv-loop μ-loop
-returns-2 c = search run-end
+returns : tie.Need-returns Inv-loop μ-loop
+returns c = search needs
 
 pub finish-spec : {M : Type 1} → statement M
 finish-spec =
@@ -47,12 +39,9 @@ finish-spec =
     Inv-loop
     μ-loop
     loop-holds
-    turn-requires
-    add-t10
-    same-length
-    returns
-    add-steps
+    go-on-requires
+    add-n
     loop-less
     loop-again
-    same-length-2
-    returns-2)
+    same-length
+    returns)
