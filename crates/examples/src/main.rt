@@ -1,15 +1,17 @@
 // Runs 01's test pages and test media on the proved functions and prints what they give.
+ghost use mathlib.Core.Path.{_≡_};
 ghost use Prim.Native.Nat.{_≤_};
+ghost use lib.ListN.{length};
 use show::line;
 use show::text;
 use state::State;
-use trials::APPEND;
+use trials::APPENDED;
 use trials::BYTE;
-use trials::COLLECT;
-use trials::COMMIT;
-use trials::FINISH;
-use trials::FORMAT;
+use trials::COLLECTED;
+use trials::COMMITTED;
+use trials::FORMATTED;
 use trials::RECOVER;
+use trials::SET;
 use trials::STEP;
 use trials::Trial;
 use trials::VALVES;
@@ -20,6 +22,25 @@ fn part(name: &[u8], n: u64) {
     show::number(n);
 }
 
+// What a page is.
+fn class(s: &[u8])
+    requires { ⌜ length (now s) ≡ 256 ⌝ }
+{
+    if page::is_clean(s) {
+        text(b"clean\n");
+        return;
+    }
+    if !page::is_whole(s) {
+        text(b"spoilt\n");
+        return;
+    }
+    if page::is_lawful(s) {
+        text(b"whole, lawful\n");
+        return;
+    }
+    text(b"whole, unlawful\n");
+}
+
 // The check of a page, and what the page is.
 fn about(s: &[u8]) {
     if s.len() != 256 {
@@ -27,19 +48,7 @@ fn about(s: &[u8]) {
     }
     line(b"check ", codec::le16(s, 0) as u64);
     line(b"zero bits ", page::zero_count(s) as u64);
-    if page::is_clean(s) {
-        text(b"clean\n");
-        return;
-    }
-    if page::is_whole(s) {
-        if page::is_lawful(s) {
-            text(b"whole, lawful\n");
-            return;
-        }
-        text(b"whole, unlawful\n");
-        return;
-    }
-    text(b"spoilt\n");
+    class(s);
 }
 
 fn wide(x: u8) -> u64 {
@@ -63,7 +72,7 @@ fn start(s: &[u8]) {
 // The empty base.
 fn base() {
     let mut m = [255u8; 16384];
-    trials::play(&mut m, &[FORMAT, FINISH]);
+    trials::play(&mut m, &[FORMATTED]);
     text(b"empty base, serial 1:");
     start(flash::page(&m, 0));
     about(flash::page(&m, 0));
@@ -81,12 +90,12 @@ fn page_of(name: &[u8], calls: &[u64], p: usize) {
 fn pages() {
     page_of(
         b"kind 1, flags 3, n 1, serial 2, valve 5, word 1000:\n",
-        &[FORMAT, FINISH, APPEND, 1, 5, 1000, FINISH],
+        &[FORMATTED, APPENDED, 1, 5, 1000],
         1,
     );
     page_of(
         b"the same with byte 16 left FFh:\n",
-        &[FORMAT, FINISH, APPEND, 1, 5, 1000, FINISH, BYTE, 272, 255],
+        &[FORMATTED, APPENDED, 1, 5, 1000, BYTE, 272, 255],
         1,
     );
     page_of(b"all FFh:\n", &[], 0);
@@ -95,7 +104,7 @@ fn pages() {
 // The pages of an append of n entries.
 fn append_pages(n: u64) {
     let mut m = [255u8; 16384];
-    let t = trials::play(&mut m, &[FORMAT, FINISH, VALVES, n, 0, FINISH]);
+    let t = trials::play(&mut m, &[FORMATTED, SET, n, 0]);
     show::number(n);
     if t.number != 0 {
         show::answer(b" entries: ", t.number);
@@ -107,23 +116,7 @@ fn append_pages(n: u64) {
 // The pages of a commit of `low` valves from 0 on and `high` from 96 on. An append of none is refused, and hands the state back.
 fn commit_pages(low: u64, high: u64) {
     let mut m = [255u8; 16384];
-    let t = trials::play(
-        &mut m,
-        &[
-            FORMAT,
-            FINISH,
-            VALVES,
-            low,
-            0,
-            FINISH,
-            VALVES,
-            high,
-            96,
-            FINISH,
-            COMMIT,
-            FINISH,
-        ],
-    );
+    let t = trials::play(&mut m, &[FORMATTED, SET, low, 0, SET, high, 96, COMMITTED]);
     show::number(t.state.index.count as u64);
     line(b" valves: pages of a commit ", t.steps as u64);
 }
@@ -138,30 +131,14 @@ fn left(name: &[u8], calls: &[u64]) {
 
 // An unset valve is removed: the log grows, the settings stay. A valve twice in a group.
 fn groups() {
-    left(
-        b"valve 7 set to 20:\n",
-        &[FORMAT, FINISH, APPEND, 1, 7, 20, FINISH],
-    );
+    left(b"valve 7 set to 20:\n", &[FORMATTED, APPENDED, 1, 7, 20]);
     left(
         b"valve 5, which is not set, removed:\n",
-        &[
-            FORMAT,
-            FINISH,
-            APPEND,
-            1,
-            7,
-            20,
-            FINISH,
-            APPEND,
-            1,
-            32773,
-            0,
-            FINISH,
-        ],
+        &[FORMATTED, APPENDED, 1, 7, 20, APPENDED, 1, 32773, 0],
     );
     left(
         b"valve 5 twice in a group:\n",
-        &[FORMAT, FINISH, APPEND, 3, 5, 7, 5, 1000, 20, 30, FINISH],
+        &[FORMATTED, APPENDED, 3, 5, 7, 5, 1000, 20, 30],
     );
 }
 
@@ -176,7 +153,7 @@ fn lengths() {
 // 30 entries, cut after their first page.
 fn cut() {
     let mut m = [255u8; 16384];
-    let t = trials::play(&mut m, &[FORMAT, FINISH, VALVES, 30, 0, STEP]);
+    let t = trials::play(&mut m, &[FORMATTED, VALVES, 30, 0, STEP]);
     line(b"30 entries cut after page ", t.touched as u64);
     show::medium(&m);
 }
@@ -187,18 +164,16 @@ fn next_append() {
     let t = trials::play(
         &mut m,
         &[
-            FORMAT,
-            FINISH,
+            FORMATTED,
             VALVES,
             30,
             0,
             STEP,
             RECOVER,
-            APPEND,
+            APPENDED,
             1,
             5,
             1000,
-            FINISH,
         ],
     );
     let p = t.touched;
@@ -210,7 +185,7 @@ fn next_append() {
 // The pages that are available after format.
 fn available() {
     let mut m = [255u8; 16384];
-    let t = trials::play(&mut m, &[FORMAT, FINISH]);
+    let t = trials::play(&mut m, &[FORMATTED]);
     let r = read::available(&m, t.state);
     part(b"format of 4 blocks: ", r.pages as u64);
     text(b" available\n");
@@ -260,29 +235,24 @@ fn first_block(m: &[u8], s: State) {
 // The document's sample, {5 to 1000, 7 to 20}, {remove 5}; then a recovery, which closes the head, a commit and the collection of block 0:
 // the first n numbers of these calls.
 fn sample(m: &mut [u8], n: usize) -> Trial
-    requires { ⌜ n ≤ 20 ⌝ }
+    requires { ⌜ n ≤ 15 ⌝ }
 {
     let calls = [
-        FORMAT,
-        FINISH,
-        APPEND,
+        FORMATTED,
+        APPENDED,
         2,
         5,
         7,
         1000,
         20,
-        FINISH,
-        APPEND,
+        APPENDED,
         1,
         32773,
         0,
-        FINISH,
         RECOVER,
-        COMMIT,
-        FINISH,
-        COLLECT,
+        COMMITTED,
+        COLLECTED,
         0,
-        FINISH,
     ];
     trials::play(m, &calls[..n])
 }
@@ -290,7 +260,7 @@ fn sample(m: &mut [u8], n: usize) -> Trial
 // As far as the recovery.
 fn recovered() {
     let mut m = [255u8; 16384];
-    let t = sample(&mut m, 15);
+    let t = sample(&mut m, 12);
     text(b"{5 to 1000, 7 to 20}, {remove 5}:\n");
     show::medium(&m);
     first_block(&m, t.state);
@@ -299,7 +269,7 @@ fn recovered() {
 // As far as the commit, into the next block.
 fn committed() {
     let mut m = [255u8; 16384];
-    let t = sample(&mut m, 17);
+    let t = sample(&mut m, 13);
     line(b"after a commit to page ", t.touched as u64);
     show::medium(&m);
     first_block(&m, t.state);
@@ -308,7 +278,7 @@ fn committed() {
 // And the collection.
 fn collected() {
     let mut m = [255u8; 16384];
-    let t = sample(&mut m, 20);
+    let t = sample(&mut m, 15);
     line(b"after the collection of block 0, steps ", t.steps as u64);
     show::medium(&m);
     first_block(&m, t.state);

@@ -1,12 +1,13 @@
 // Makes the small example of each number in 01's table of refusals, and prints what the call answered.
 use trials::APPEND;
+use trials::APPENDED;
 use trials::BYTE;
 use trials::COLLECT;
 use trials::COMMIT;
-use trials::FINISH;
-use trials::FORMAT;
+use trials::FORMATTED;
 use trials::PUT;
 use trials::RECOVER;
+use trials::SET;
 use trials::STEP;
 use trials::VALVES;
 
@@ -25,13 +26,10 @@ fn three_blocks() {
 
 // 2 to 4. Page 0 of a formatted medium is the empty base with serial 1.
 fn pages() {
-    say(
-        b"2 kind 9: ",
-        &[FORMAT, FINISH, PUT, 1, 9, 2, 1, 1000, RECOVER],
-    );
+    say(b"2 kind 9: ", &[FORMATTED, PUT, 1, 9, 2, 1, 1000, RECOVER]);
     say(
         b"3 page 0 copied to page 1: ",
-        &[FORMAT, FINISH, PUT, 1, 2, 1, 0, 0, RECOVER],
+        &[FORMATTED, PUT, 1, 2, 1, 0, 0, RECOVER],
     );
     say(b"4 16384 bytes FFh: ", &[RECOVER]);
 }
@@ -40,27 +38,7 @@ fn pages() {
 fn bases() {
     say(
         b"5 base 1, nodes 2 and 4: ",
-        &[
-            PUT,
-            0,
-            2,
-            1,
-            0,
-            0,
-            PUT,
-            1,
-            1,
-            2,
-            1,
-            1000,
-            PUT,
-            2,
-            1,
-            4,
-            1,
-            1000,
-            RECOVER,
-        ],
+        &[FORMATTED, PUT, 1, 1, 2, 1, 9, PUT, 2, 1, 4, 1, 9, RECOVER],
     );
     say(
         b"6 base: valve 5 at address 0, itself a base: ",
@@ -71,7 +49,7 @@ fn bases() {
 // 7: a state of 4 blocks with a medium of 5.
 fn other_medium() {
     let mut m = [255u8; 16384];
-    let t = trials::play(&mut m, &[FORMAT, FINISH]);
+    let t = trials::play(&mut m, &[FORMATTED]);
     let b = begin::commit(&[255u8; 20480], t.state);
     show::answer(b"7 state of 4 blocks, medium of 5: ", b.number);
 }
@@ -80,35 +58,18 @@ fn other_medium() {
 fn operations() {
     say(
         b"8 append, then commit: ",
-        &[FORMAT, FINISH, APPEND, 1, 5, 1000, COMMIT],
+        &[FORMATTED, APPEND, 1, 5, 1000, COMMIT],
     );
-    say(b"9 step after recovery: ", &[FORMAT, FINISH, RECOVER, STEP]);
-    say(b"10 97 entries: ", &[FORMAT, FINISH, VALVES, 97, 0]);
+    say(b"9 step after recovery: ", &[FORMATTED, RECOVER, STEP]);
+    say(b"10 97 entries: ", &[FORMATTED, VALVES, 97, 0]);
 }
 
 // 11 and 12.
 fn groups() {
-    say(
-        b"11 key 32773, word 1: ",
-        &[FORMAT, FINISH, APPEND, 1, 32773, 1],
-    );
+    say(b"11 key 32773, word 1: ", &[FORMATTED, APPEND, 1, 32773, 1]);
     say(
         b"12 a 193rd: ",
-        &[
-            FORMAT,
-            FINISH,
-            VALVES,
-            96,
-            0,
-            FINISH,
-            VALVES,
-            96,
-            96,
-            FINISH,
-            VALVES,
-            1,
-            192,
-        ],
+        &[FORMATTED, SET, 96, 0, SET, 96, 96, VALVES, 1, 192],
     );
 }
 
@@ -117,38 +78,23 @@ fn room() {
     say(b"13 the 48th group: ", &trials::groups());
     say(
         b"14 next 2^64 - 1: ",
-        &[
-            PUT,
-            0,
-            2,
-            18446744073709551614,
-            0,
-            0,
-            RECOVER,
-            APPEND,
-            1,
-            5,
-            1000,
-        ],
+        &[PUT, 0, 2, 18446744073709551614, 0, 0, RECOVER, COMMIT],
     );
-    say(b"15 block 0 after format: ", &[FORMAT, FINISH, COLLECT, 0]);
+    say(b"15 block 0 after format: ", &[FORMATTED, COLLECT, 0]);
 }
 
 // 16.
 fn damage() {
     say(
         b"16 format, append begun, byte 256 zeroed, then a step: ",
-        &[FORMAT, FINISH, APPEND, 1, 5, 1000, BYTE, 256, 0, STEP],
+        &[FORMATTED, APPEND, 1, 5, 1000, BYTE, 256, 0, STEP],
     );
 }
 
 // 17: two places for three changes.
 fn short_lists() {
     let mut m = [255u8; 16384];
-    trials::play(
-        &mut m,
-        &[FORMAT, FINISH, APPEND, 3, 5, 7, 5, 1000, 20, 30, FINISH],
-    );
+    trials::play(&mut m, &[FORMATTED, APPENDED, 3, 5, 7, 5, 1000, 20, 30]);
     let r = filing::log(&m, &mut [0u16; 2], &mut [0u64; 2]);
     show::answer(b"17 3 changes, 2 places: ", r.number);
 }
@@ -156,7 +102,7 @@ fn short_lists() {
 // 18: a valve that is not set.
 fn unset_valve() {
     let mut m = [255u8; 16384];
-    let t = trials::play(&mut m, &[FORMAT, FINISH]);
+    let t = trials::play(&mut m, &[FORMATTED]);
     let r = read::opening(&m, t.state, 5);
     show::answer(b"18 valve 5 after format: ", r.number);
 }

@@ -23,17 +23,29 @@ pub const STEP: u64 = 5;
 // Recovery: its state takes the place of the last.
 pub const RECOVER: u64 = 7;
 
-// The same as STEP until the operation is over, 20 times at most: formatting of 16 blocks takes 17.
-pub const FINISH: u64 = 10;
-
 // VALVES, n, low: an append begins that sets n valves from `low` on to 0.
-pub const VALVES: u64 = 12;
+pub const VALVES: u64 = 8;
+
+// 10 more than a call is the call with its steps until it is over, 20 at most: formatting of 16 blocks takes 17. Here formatting.
+pub const FORMATTED: u64 = 11;
+
+// An append.
+pub const APPENDED: u64 = 12;
+
+// A commit.
+pub const COMMITTED: u64 = 13;
+
+// A collection.
+pub const COLLECTED: u64 = 14;
+
+// Valves set to 0.
+pub const SET: u64 = 18;
 
 // BYTE, at, value: a byte of the medium changes.
-pub const BYTE: u64 = 22;
+pub const BYTE: u64 = 40;
 
 // PUT, page, kind, serial, n, word: a page is programmed that begins and ends a group, of n entries, 0 or 1, that set valve 5.
-pub const PUT: u64 = 15;
+pub const PUT: u64 = 100;
 
 // How the last call of a list went: the number that refused it, or 0; the steps it tried; the page or block that the last of them touched; and
 // the state.
@@ -56,16 +68,17 @@ fn at(calls: &[u64], i: usize) -> u64 {
 fn numbers(code: u64, n: u64) -> usize
     ensures { λ r. ⌜ r ≤ 195 ⌝ }
 {
-    if code == APPEND {
+    let call = code % 10;
+    if call == APPEND {
         return 1 + 2 * ((n % 98) as usize);
     }
-    if code == COLLECT {
+    if call == COLLECT {
         return 1;
     }
-    if code < FINISH {
-        return 0;
+    if call == VALVES {
+        return 2;
     }
-    (code % 10) as usize
+    ((code % 120) / 20) as usize
 }
 
 // Where the call at place i ends; a list that is cut short ends it.
@@ -84,7 +97,7 @@ fn end(calls: &[u64], i: usize) -> usize
 fn key(call: &[u64], i: usize) -> u16
     requires { ⌜ i < 97 ⌝ }
 {
-    if at(call, 0) == VALVES {
+    if at(call, 0) % 10 == VALVES {
         return ((at(call, 2) % 32768) as u16) + (i as u16);
     }
     (at(call, 2 + i) % 65536) as u16
@@ -138,7 +151,7 @@ fn recovered(m: &[u8]) -> Begun {
 
 // A call that begins an operation, or recovery; any other code leaves all as it was.
 fn begun(m: &[u8], number: u8, s: State, call: &[u64]) -> Begun {
-    let code = at(call, 0);
+    let code = at(call, 0) % 10;
     let n = (at(call, 1) % 98) as usize;
     if code == FORMAT {
         return begin::format(m);
@@ -179,7 +192,7 @@ fn steps(code: u64) -> usize
     if code == STEP {
         return 1;
     }
-    if code == FINISH {
+    if code / 10 == 1 {
         return 20;
     }
     0
@@ -275,15 +288,14 @@ pub fn play(m: &mut [u8], calls: &[u64]) -> Trial {
 }
 
 // The calls that format a medium and append 48 groups of one page to it.
-pub fn groups() -> [u64; 194]
-    ensures { λ r. ⌜ length r ≡ 194 ⌝ }
+pub fn groups() -> [u64; 145]
+    ensures { λ r. ⌜ length r ≡ 145 ⌝ }
 {
-    let group = [VALVES, 1, 5, FINISH];
-    let mut all = [FINISH; 194];
-    all[0] = FORMAT;
-    let mut i: usize = 2;
-    while i < 194 {
-        all[i] = group[(i - 2) % 4];
+    let group = [SET, 1, 5];
+    let mut all = [FORMATTED; 145];
+    let mut i: usize = 1;
+    while i < 145 {
+        all[i] = group[(i - 1) % 3];
         i += 1;
     }
     all

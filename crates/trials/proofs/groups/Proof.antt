@@ -6,13 +6,10 @@ use Rattle.trials.proofs.groups.Statement.{statement}
 use Rattle.trials.proofs.groups.Tie as tie
 
 abbrev Inv-loop : tie.InvT-loop
-Inv-loop group all₀ i₀ all i = (length group ≡ 4) × (length all ≡ 194) × (2 ≤ i)
+Inv-loop group all₀ i₀ all i = (length group ≡ 3) × (length all ≡ 145) × (1 ≤ i)
 
 abbrev μ-loop : tie.MeasureT-loop
-μ-loop group all₀ i₀ all i = 194 - i
-
-array-write-all : tie.Need-array-write-all Inv-loop μ-loop
-array-write-all c = search needs
+μ-loop group all₀ i₀ all i = 145 - i
 
 loop-holds : tie.Need-loop-holds Inv-loop μ-loop
 loop-holds c = search needs
@@ -29,8 +26,8 @@ array-read-all c = search needs
 mul-all-2 : tie.Need-mul-all-2 Inv-loop μ-loop
 mul-all-2 c = search needs
 
-array-write-all-2 : tie.Need-array-write-all-2 Inv-loop μ-loop
-array-write-all-2 c = search needs
+array-write-all : tie.Need-array-write-all Inv-loop μ-loop
+array-write-all c = search needs
 
 add-i : tie.Need-add-i Inv-loop μ-loop
 add-i c = search needs
@@ -50,13 +47,12 @@ groups-spec =
     (tie.spec
     Inv-loop
     μ-loop
-    array-write-all
     loop-holds
     sub-all
     mul-all
     array-read-all
     mul-all-2
-    array-write-all-2
+    array-write-all
     add-i
     loop-less
     loop-again
