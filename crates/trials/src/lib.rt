@@ -5,7 +5,7 @@ ghost use lib.ListN.{length};
 use begin::Begun;
 use state::State;
 
-// Formatting begins.
+// Codes of calls. The last digit of a code is the call; here formatting begins.
 pub const FORMAT: u64 = 1;
 
 // APPEND, n, n keys, n words: an append begins, of 97 entries at most.
@@ -26,7 +26,7 @@ pub const RECOVER: u64 = 7;
 // VALVES, n, low: an append begins that sets n valves from `low` on to 0.
 pub const VALVES: u64 = 8;
 
-// 10 more than a call is the call with its steps until it is over, 20 at most: formatting of 16 blocks takes 17. Here formatting.
+// A code that is 10 more is the call with its steps until the operation is over, 20 at most: formatting of 16 blocks takes 17. Here formatting.
 pub const FORMATTED: u64 = 11;
 
 // An append.
@@ -42,10 +42,10 @@ pub const COLLECTED: u64 = 14;
 pub const SET: u64 = 18;
 
 // BYTE, at, value: a byte of the medium changes.
-pub const BYTE: u64 = 40;
+pub const BYTE: u64 = 20;
 
 // PUT, page, kind, serial, n, word: a page is programmed that begins and ends a group, of n entries, 0 or 1, that set valve 5.
-pub const PUT: u64 = 100;
+pub const PUT: u64 = 30;
 
 // How the last call of a list went: the number that refused it, or 0; the steps it tried; the page or block that the last of them touched; and
 // the state.
@@ -78,7 +78,13 @@ fn numbers(code: u64, n: u64) -> usize
     if call == VALVES {
         return 2;
     }
-    ((code % 120) / 20) as usize
+    if code == BYTE {
+        return 2;
+    }
+    if code == PUT {
+        return 5;
+    }
+    0
 }
 
 // Where the call at place i ends; a list that is cut short ends it.
@@ -255,7 +261,6 @@ fn damage(m: &mut [u8], call: &[u64]) {
     if code == BYTE {
         if i < m.len() {
             m[i] = (at(call, 2) % 256) as u8;
-            return;
         }
         return;
     }
