@@ -191,7 +191,7 @@ fn available() {
     text(b" available\n");
 }
 
-// One-page groups until one is refused: the base has serial 1, and each group takes the next.
+// 48 groups of one page, the last of them refused: the base has serial 1, and each group that passes takes the next.
 fn filled() {
     let mut m = [255u8; 16384];
     let t = trials::play(&mut m, &trials::groups());
