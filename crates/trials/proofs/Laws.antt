@@ -5,6 +5,6 @@ use lib.ListN.{length, take}
 use native.Mathlib.Omega.{arith}
 use lib.Seq.{length-take-le}
 
--- the length of a part of 97
-pub part : (n : ℕ) (xs : List ℕ) → n ≤ 97 → length xs ≡ 97 → n ≡ length (take n xs)
-part n xs h l = sym (length-take-le n xs (omega (arith, l)))
+-- the length of a part, of a list whose length is known
+pub part : (n k : ℕ) (xs : List ℕ) → n ≤ k → length xs ≡ k → n ≡ length (take n xs)
+part n k xs h l = sym (length-take-le n xs (omega (arith, l)))

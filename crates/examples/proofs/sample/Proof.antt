@@ -1,4 +1,4 @@
-use Rattle.examples.proofs.Laws.{part}
+use Rattle.trials.proofs.Laws.{part}
 use borrow.Author.Needs.{needs}
 use Rattle.examples.proofs.sample.Statement.{statement}
 use Rattle.examples.proofs.sample.Tie as tie
