@@ -279,6 +279,10 @@ get-rows f d h w k j p q = ap (λ (row : List _). getD row j d) (get-table (λ i
 
 -- ---- arrays with a count
 
+-- the first n places of an array of k
+pub length-taken : (n k : ℕ) (xs : List ℕ) → n ≤ k → length xs ≡ k → n ≡ length (take n xs)
+length-taken n k xs h l = omega (arith, l, length-take n xs)
+
 module _ {A : Type 0} (d : A) where
   pub length-first : (n : ℕ) (s : List A) → length (first d n s) ≡ n
   unfolding first

@@ -1,4 +1,4 @@
-use Rattle.trials.proofs.Laws.{part}
+use Rattle.lists.proofs.Laws.{length-taken}
 use borrow.Author.Needs.{needs}
 use Rattle.examples.proofs.sample.Statement.{statement}
 use Rattle.examples.proofs.sample.Tie as tie
@@ -7,7 +7,7 @@ array-share-prefix-calls : tie.Need-array-share-prefix-calls
 array-share-prefix-calls c = search needs
 
 slice-aggregate-play : tie.Need-slice-aggregate-play
-slice-aggregate-play c = search (part, needs)
+slice-aggregate-play c = search (length-taken, needs)
 
 play-requires : tie.Need-play-requires
 play-requires c κs = search needs

@@ -1,4 +1,4 @@
-use Rattle.trials.proofs.Laws.{part}
+use Rattle.lists.proofs.Laws.{length-taken}
 use borrow.Author.Needs.{needs}
 use Rattle.trials.proofs.append.Statement.{statement}
 use Rattle.trials.proofs.append.Tie as tie
@@ -13,13 +13,13 @@ array-share-prefix-keys : tie.Need-array-share-prefix-keys
 array-share-prefix-keys c = search needs
 
 slice-aggregate-append : tie.Need-slice-aggregate-append
-slice-aggregate-append c = search (part, needs)
+slice-aggregate-append c = search (length-taken, needs)
 
 array-share-prefix-words : tie.Need-array-share-prefix-words
 array-share-prefix-words c = search needs
 
 slice-aggregate-append-2 : tie.Need-slice-aggregate-append-2
-slice-aggregate-append-2 c = search (part, needs)
+slice-aggregate-append-2 c = search (length-taken, needs)
 
 append-requires : tie.Need-append-requires
 append-requires c κs = search needs
