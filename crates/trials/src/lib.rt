@@ -2,6 +2,7 @@
 ghost use mathlib.Core.Path.{_≡_};
 ghost use Prim.Native.Nat.{_<_, _≤_};
 ghost use lib.ListN.{length};
+ghost use Rattle.trials.specs.Played.{Played};
 use begin::Begun;
 use state::State;
 
@@ -181,7 +182,9 @@ fn begun(m: &[u8], number: u8, s: State, call: &[u64]) -> Begun {
 }
 
 // An answer, before any step.
-fn told(b: Begun) -> Trial {
+fn told(b: Begun) -> Trial
+    ensures { λ r. ⌜ r .number ≡ b .number ⌝ }
+{
     let state = b.state;
     Trial {
         number: b.number,
@@ -280,9 +283,18 @@ fn made(m: &mut [u8], t: Trial, call: &[u64]) -> Trial {
     finish(m, u, steps(at(call, 0)))
 }
 
+// The answer before any call: that of a format of no bytes, which is refused.
+fn nothing() -> Trial
+    ensures { λ r. ⌜ r .number ≡ 1 ⌝ }
+{
+    told(begin::format(&[]))
+}
+
 // Each call of a list in turn, also after a refusal. What the state is before the first FORMAT or RECOVER means nothing.
-pub fn play(m: &mut [u8], calls: &[u64]) -> Trial {
-    let mut t = told(begin::format(&[]));
+pub fn play(m: &mut [u8], calls: &[u64]) -> Trial
+    ensures { λ r. ⌜ Played (now (m .entry)) (now (calls .entry)) r (now (m .exit)) ⌝ }
+{
+    let mut t = nothing();
     let mut i: usize = 0;
     while i < calls.len() {
         let e = end(calls, i);

@@ -1,27 +1,21 @@
-use mathlib.Core.Path.{_≡_}
-use Prim.Native.Nat.{_-_, _≤_}
+use Prim.Native.Nat.{_-_}
 use lib.ListN.{length}
 use borrow.Author.Needs.{needs}
+use Rattle.trials.proofs.Laws.{Playing, play-starts, play-goes-on, play-ends}
 use Rattle.trials.proofs.play.Statement.{statement}
 use Rattle.trials.proofs.play.Tie as tie
 
 abbrev Inv-loop : tie.InvT-loop
-Inv-loop m₀ calls t₀ i₀ m t i = (length m ≡ length m₀) × (i ≤ length calls)
+Inv-loop m₀ calls t₀ i₀ m t i = Playing m₀ calls m (t .number) i
 
 abbrev μ-loop : tie.MeasureT-loop
 μ-loop m₀ calls t₀ i₀ m t i = length calls - i
 
-slice-aggregate-format : tie.Need-slice-aggregate-format Inv-loop μ-loop
-slice-aggregate-format c = search needs
-
-format-requires : tie.Need-format-requires Inv-loop μ-loop
-format-requires c κs = search needs
-
-told-requires : tie.Need-told-requires Inv-loop μ-loop
-told-requires c κs = search needs
+nothing-requires : tie.Need-nothing-requires Inv-loop μ-loop
+nothing-requires c κs = search needs
 
 loop-holds : tie.Need-loop-holds Inv-loop μ-loop
-loop-holds c = search needs
+loop-holds c = search (play-starts, needs)
 
 end-requires : tie.Need-end-requires Inv-loop μ-loop
 end-requires c κs = search needs
@@ -45,13 +39,13 @@ loop-less : tie.Need-loop-less Inv-loop μ-loop
 loop-less c = search needs
 
 loop-again : tie.Need-loop-again Inv-loop μ-loop
-loop-again c = search needs
+loop-again c = search (play-goes-on, needs)
 
 same-length : tie.Need-same-length Inv-loop μ-loop
 same-length c = search needs
 
 returns : tie.Need-returns Inv-loop μ-loop
-returns c = search needs
+returns c = search (play-ends, needs)
 
 pub play-spec : {M : Type 1} → statement M
 play-spec =
@@ -59,9 +53,7 @@ play-spec =
     (tie.spec
     Inv-loop
     μ-loop
-    slice-aggregate-format
-    format-requires
-    told-requires
+    nothing-requires
     loop-holds
     end-requires
     mul-made
