@@ -71,7 +71,7 @@ busy w t a b c cs s′ e =
 
 -- ---- one event more
 
-abbrev formatState : ℕ → ℕ → Held
+abbrev pub formatState : ℕ → ℕ → Held
 formatState blocks k = starting (formatting blocks) (format k)
 
 module _ (m : List ℕ) (k : ℕ) (size : sizeOk (length m) ≡ true) (bytes : Bytes m) (few : k ≤ length m / 4096) (blanks : (i : ℕ) → i < 4096 * k → getD m i 0 ≡ 255) where
@@ -82,13 +82,14 @@ module _ (m : List ℕ) (k : ℕ) (size : sizeOk (length m) ≡ true) (bytes : B
   same = record { size = size; bytes = bytes; done = k; few = few; state = refl; blanks = blanks }
 
   -- the step erases the next block, or programs the base and finishes
-  one-more : k < length m / 4096 → InFormat (erased m k) (some (starting (formatState (length m / 4096) k) (format (suc k))))
+  unfoldable pub one-more : k < length m / 4096 → InFormat (erased m k) (some (starting (formatState (length m / 4096) k) (format (suc k))))
+  unfolding erased
   one-more h =
       let there : 4096 * k + 4096 ≤ length m = omega arith in
       let l = erase-length m k there in
       record {
         size = rw l size;
-        bytes = unfold erased in bytes-put m (4096 * k) (blank 4096) bytes (bytes-blank 4096);
+        bytes = bytes-put m (4096 * k) (blank 4096) bytes (bytes-blank 4096);
         done = suc k;
         few = omega arith;
         state = rw l;
@@ -203,7 +204,7 @@ module _ (m : List ℕ) (k : ℕ) (size : sizeOk (length m) ≡ true) (bytes : B
   refused-ends n f = true-false f refl
 
   module _ (all-done : length m / 4096 ≤ k) where
-    blank-page : (p : ℕ) → 256 * p + 256 ≤ length m → pageAt m p ≡ blank 256
+    pub blank-page : (p : ℕ) → 256 * p + 256 ≤ length m → pageAt m p ≡ blank 256
     blank-page p h =
         let S = sized (length m) size in
         page-known m p (blank 256) h (length-blank 256) (λ i x. blanks (256 * p + i) (omega (arith, S .even)) ∙ sym (get-blank 256 i 0 x))
@@ -227,10 +228,10 @@ module _ (m : List ℕ) (k : ℕ) (size : sizeOk (length m) ≡ true) (bytes : B
     base-narrow : Narrow basePage
     base-narrow = narrow basePage base-lawful (omega arith) small-nil
 
-    page-there : 256 * 0 + 256 ≤ length m
+    pub page-there : 256 * 0 + 256 ≤ length m
     page-there = let S = sized (length m) size in omega (arith, S .low)
 
-    length-after : length (programmed m 0 basePage) ≡ length m
+    pub length-after : length (programmed m 0 basePage) ≡ length m
     length-after = program-length m 0 basePage page-there (omega arith)
 
     some-views : (n : ℕ) → 1 ≤ n → set (replicate n clean) 0 (whole basePage) ≡ whole basePage ∷ replicate (n - 1) clean

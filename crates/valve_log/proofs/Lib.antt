@@ -17,3 +17,4 @@ pub mod Supply
 pub mod Ready
 pub mod Steady
 pub mod Quiet
+pub mod Finished

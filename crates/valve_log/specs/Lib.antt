@@ -2,3 +2,4 @@ pub mod History
 pub mod Reached
 pub mod Steady
 pub mod Quiet
+pub mod Finished

@@ -1,0 +1,177 @@
+-- Formatting, begun on any medium of allowed length and stepped, is finished.
+use mathlib.Core.Path.{_≡_, refl, sym, ap, subst, _∙_}
+use mathlib.Core.Bool.{true, false}
+use mathlib.Core.Option.{some}
+use mathlib.Core.List.{List}
+use Prim.Native.Nat.{ℕ, zero, suc, _*_, _/_, _≤_, _<_}
+use native.Mathlib.Omega.{arith}
+use lib.ListN.{length, getD}
+use Rattle.lists.specs.Lists.{Bytes}
+use Rattle.lists.specs.Needs.{checked}
+use Rattle.page.specs.Pages.{clean}
+use Rattle.page.specs.Layout.{viewOf}
+use Rattle.page.proofs.Berger.{blank-clean}
+use Rattle.flash.specs.Medium.{views, seen, programmed, erased}
+use Rattle.flash.proofs.Laws.{seen-views, length-views}
+use Rattle.flash.proofs.Steps.{erase-length}
+use Rattle.blocks.specs.Blocks.{sizeOk}
+use Rattle.state.specs.State.{Held}
+use Rattle.calls.specs.Calls.{Call, formatting, formatOf}
+use Rattle.step.specs.Step.{Step, formatted, stepOf, mediumAfter}
+use Rattle.step.proofs.Formats.{erase-due, base-due}
+use Rattle.valve_log.specs.History.{start}
+use Rattle.valve_log.specs.Reached.{World, world, withState, stepDue, Event, stepped, happen, finishes, meanwhile, Formatting, Reached}
+use Rattle.valve_log.specs.Finished.{stepsOn, Finished, FormattingFinishes}
+use Rattle.valve_log.proofs.Events.{sized}
+use Rattle.valve_log.proofs.Formats.{formatState, one-more, basePage, blank-page, page-there, length-after}
+
+-- ---- a step of formatting as an event
+
+module _ (m : List ℕ) (s : Held) (t : Step) (d : stepOf (length m) (views m) s ≡ t) where
+  due-is : stepDue (world m (some s)) ≡ t
+  unfolding stepDue withState
+  due-is = d
+
+  after-is : happen (world m (some s)) Event.step .after ≡ stepped (world m (some s)) t .after
+  unfolding happen
+  after-is = ap (λ (q : Step). stepped (world m (some s)) q .after) due-is
+
+erase-after : (m : List ℕ) (s s′ : Held) (k : ℕ) → stepped (world m (some s)) (Step.erase k s′ false) .after ≡ world (erased m k) (some s′)
+unfolding stepped mediumAfter
+erase-after m s s′ k = refl
+
+program-after : (m : List ℕ) (s s′ : Held) → stepped (world m (some s)) (Step.program 0 basePage s′ true) .after ≡ world (programmed m 0 basePage) (some s′)
+unfolding stepped mediumAfter
+program-after m s s′ = refl
+
+erase-open : (k : ℕ) (s : Held) → finishes (Step.erase k s false) ≡ false
+unfolding finishes
+erase-open k s = refl
+
+program-over : (s : Held) → finishes (Step.program 0 basePage s true) ≡ true
+unfolding finishes
+program-over s = refl
+
+-- ---- after k steps the first k blocks are erased
+
+record Erased (n k : ℕ) (w : World) : Type 0 where
+  pub medium : List ℕ
+  pub is : w ≡ world medium (some (formatState (length medium / 4096) k))
+  pub long : length medium ≡ n
+  pub bytes : Bytes medium
+  pub blanks : (i : ℕ) → i < 4096 * k → getD medium i 0 ≡ 255
+
+module _ (n : ℕ) (size : sizeOk n ≡ true) where
+  -- the step erases the next block
+  module _ (k : ℕ) (h : k < n / 4096) (w : World) (E : Erased n k w) where
+    abbrev m : List ℕ
+    m = E .medium
+
+    size-here : sizeOk (length m) ≡ true
+    size-here = rw (E .long) size
+
+    erases : stepOf (length m) (views m) (formatState (length m / 4096) k) ≡ Step.erase k (formatState (length m / 4096) (suc k)) false
+    erases =
+        let S = sized (length m) size-here in
+        erase-due (length m) (views m) (length m / 4096) size-here (omega (arith, length-views m)) (omega (arith, S .low)) k (omega (arith, E .long))
+
+    goes-on : finishes (stepDue w) ≡ false
+    goes-on = ap (λ (x : World). finishes (stepDue x)) (E .is) ∙ ap finishes (due-is m _ _ erases) ∙ erase-open k _
+
+    erased-more : Erased n (suc k) (happen w Event.step .after)
+    unfolding one-more
+    erased-more =
+        let l : length (erased m k) ≡ length m = erase-length m k (omega (arith, E .long)) in
+        let I = one-more m k size-here (E .bytes) (omega (arith, E .long)) (E .blanks) (omega (arith, E .long)) in
+        record {
+          medium = erased m k;
+          is = ap (λ (x : World). happen x Event.step .after) (E .is) ∙ after-is m _ _ erases ∙ erase-after m _ _ k ∙ ap (λ (j : ℕ). world (erased m k) (some (formatState (j / 4096) (suc k)))) (sym l);
+          long = l ∙ E .long;
+          bytes = I .bytes;
+          blanks = I .blanks;
+        }
+
+  -- with all blocks erased the step writes the base
+  module _ (w : World) (E : Erased n (n / 4096) w) where
+    abbrev blocks : ℕ
+    blocks = length (E .medium) / 4096
+
+    all-there : blocks ≡ n / 4096
+    all-there = ap (λ (j : ℕ). j / 4096) (E .long)
+
+    size-last : sizeOk (length (E .medium)) ≡ true
+    size-last = rw (E .long) size
+
+    blanks-last : (i : ℕ) → i < 4096 * blocks → getD (E .medium) i 0 ≡ 255
+    blanks-last i h = E .blanks i (omega (arith, all-there))
+
+    few : blocks ≤ blocks
+    few = omega arith
+
+    first-clean : seen (views (E .medium)) 0 ≡ clean
+    first-clean =
+        seen-views (E .medium) 0
+        ∙ ap viewOf (blank-page (E .medium) blocks size-last (E .bytes) few blanks-last few 0 (page-there (E .medium) blocks size-last (E .bytes) few blanks-last few))
+        ∙ blank-clean
+
+    writes : stepOf (length (E .medium)) (views (E .medium)) (formatState blocks blocks) ≡ Step.program 0 basePage (formatted blocks) true
+    writes =
+        let S = sized (length (E .medium)) size-last in
+        base-due (length (E .medium)) (views (E .medium)) blocks size-last (omega (arith, length-views (E .medium))) (omega (arith, S .low)) first-clean
+
+    here : w ≡ world (E .medium) (some (formatState blocks blocks))
+    here = E .is ∙ ap (λ (j : ℕ). world (E .medium) (some (formatState blocks j))) (sym all-there)
+
+    is-over : finishes (stepDue w) ≡ true
+    is-over = ap (λ (x : World). finishes (stepDue x)) here ∙ ap finishes (due-is (E .medium) _ _ writes) ∙ program-over (formatted blocks)
+
+    length-last : length (happen w Event.step .after .medium) ≡ n
+    length-last =
+        ap (λ (x : World). length (happen x Event.step .after .medium)) here
+        ∙ ap (λ (x : World). length (x .medium)) (after-is (E .medium) _ _ writes ∙ program-after (E .medium) _ (formatted blocks))
+        ∙ length-after (E .medium) blocks size-last (E .bytes) few blanks-last few ∙ E .long
+
+-- ---- from where formatting begins
+
+abbrev first : List ℕ → World
+first m = world m (some (formatting (length m / 4096)))
+
+begun-there : (n : ℕ) → sizeOk n ≡ true → formatOf n ≡ Call.begun (formatting (n / 4096))
+unfolding formatOf checked
+begun-there n size = rw size
+
+module _ (m : List ℕ) (b : Bytes m) (size : sizeOk (length m) ≡ true) where
+  at-first : Erased (length m) 0 (first m)
+  at-first = record { medium = m; is = unfold formatting in refl; long = refl; bytes = b; blanks = λ i h. absurd (omega arith) }
+
+  at : (k : ℕ) → k ≤ length m / 4096 → Erased (length m) k (stepsOn k (first m))
+  unfolding stepsOn
+  at zero h = at-first
+  at (suc k) h = erased-more (length m) size k (omega arith) (stepsOn k (first m)) (at k (omega arith))
+
+  not-over : (k : ℕ) → k < length m / 4096 → finishes (stepDue (stepsOn k (first m))) ≡ false
+  not-over k h = goes-on (length m) size k h (stepsOn k (first m)) (at k (omega arith))
+
+  under-way : (k : ℕ) → k ≤ length m / 4096 → Formatting (stepsOn k (first m))
+  unfolding stepsOn
+  under-way zero h = Formatting.begun m (formatting (length m / 4096)) b (begun-there (length m) size)
+  under-way (suc k) h = Formatting.next (stepsOn k (first m)) Event.step (under-way k (omega arith)) (unfold meanwhile in rw (not-over k (omega arith)))
+
+  finished : Finished m
+  unfolding stepsOn
+  finished =
+      let k : length m / 4096 ≤ length m / 4096 = omega arith in
+      let w = stepsOn (length m / 4096) (first m) in
+      let over = is-over (length m) size w (at (length m / 4096) k) in
+      record {
+        state = formatting (length m / 4096);
+        begun = begun-there (length m) size;
+        before = not-over;
+        last = over;
+        reached = Reached.start w (under-way (length m / 4096) k) over;
+        same-length = length-last (length m) size w (at (length m / 4096) k);
+      }
+
+pub formatting-finishes : FormattingFinishes
+unfolding FormattingFinishes
+formatting-finishes = finished

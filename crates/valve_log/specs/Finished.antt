@@ -1,0 +1,32 @@
+-- That the list of point 3 can start: formatting, begun on any medium of allowed length and stepped, is finished, by one step for each block
+-- and one more. So point 3 speaks of some world for every such medium.
+use mathlib.Core.Path.{_≡_}
+use mathlib.Core.Bool.{true, false}
+use mathlib.Core.Option.{some}
+use mathlib.Core.List.{List}
+use Prim.Native.Nat.{ℕ, zero, suc, _/_, _<_}
+use lib.ListN.{length}
+use Rattle.lists.specs.Lists.{Bytes}
+use Rattle.blocks.specs.Blocks.{sizeOk}
+use Rattle.state.specs.State.{Held}
+use Rattle.calls.specs.Calls.{Call, formatOf}
+use Rattle.valve_log.specs.History.{start as noHistory}
+use Rattle.valve_log.specs.Reached.{World, world, stepDue, Event, happen, finishes, Reached}
+
+-- the world after n steps
+unfoldable pub stepsOn : ℕ → World → World
+stepsOn zero w = w
+stepsOn (suc n) w = happen (stepsOn n w) Event.step .after
+
+-- Formatting of medium m: format is not refused; none of the steps before finishes, the one after a step for each block does; and the world
+-- it leaves is one that point 3 speaks of, with a medium as long as m.
+pub record Finished (m : List ℕ) : Type 0 where
+  pub state : Held
+  pub begun : formatOf (length m) ≡ Call.begun state
+  pub before : (n : ℕ) → n < length m / 4096 → finishes (stepDue (stepsOn n (world m (some state)))) ≡ false
+  pub last : finishes (stepDue (stepsOn (length m / 4096) (world m (some state)))) ≡ true
+  pub reached : Reached (stepsOn (suc (length m / 4096)) (world m (some state))) noHistory
+  pub same-length : length (stepsOn (suc (length m / 4096)) (world m (some state)) .medium) ≡ length m
+
+unfoldable pub FormattingFinishes : Type 0
+FormattingFinishes = (m : List ℕ) → Bytes m → sizeOk (length m) ≡ true → Finished m
