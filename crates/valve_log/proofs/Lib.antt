@@ -16,5 +16,6 @@ pub mod Point3
 pub mod Supply
 pub mod Ready
 pub mod Steady
+pub mod Stateless
 pub mod Quiet
 pub mod Finished

@@ -23,7 +23,7 @@ use Rattle.nodes.specs.Nodes.{wordAt, sound, live, pickBelow}
 use Rattle.state.specs.State.{Pending, append, commit, collect, Held, groupOk, basePages, pendingFit, fit, stateNeeds}
 use Rattle.recovery.specs.Recovery.{Placed, wholes, sort, lastOf, noPage, Recovery}
 use Rattle.recovery.specs.Recovery
-use Rattle.readings.specs.Readings.{Opening, placeOf, openingNeeds, openingOf, Pick, pickedBlock, pickOf, Survey, surveyOf}
+use Rattle.readings.specs.Readings.{Opening, placeOf, openingNeeds, openingOf, Pick, pickedBlock, pickOf, Survey, surveyOf, Supply, availableOf}
 use Rattle.calls.specs.Calls.{Call, starting, zip, listsOk, roomFor, appendNeeds, appendOf, commitNeeds, commitOf, collectNeeds, collectOf}
 use Rattle.step.specs.Step.{Step, formatted, stepOf, mediumAfter}
 use Rattle.valve_log.specs.History.{History, Told, beganAppend, beganCommit, beganCollect}
@@ -292,6 +292,10 @@ module _ (m : List ℕ) (s : Held) (h : History) (U : Upheld (world m (some s)) 
   unfolding surveyOf
   survey-answers = state-met (λ (c : Survey). (n : ℕ) → c ≡ Survey.turnedBack n → ⊥) Survey.turnedBack _ (λ n e. let z : _≡_ {A = ℕ} 0 1 = cc in omega arith)
 
+  available-answers : (n : ℕ) → availableOf (length m) v s ≡ Supply.turnedBack n → ⊥
+  unfolding availableOf
+  available-answers = state-met (λ (c : Supply). (n : ℕ) → c ≡ Supply.turnedBack n → ⊥) Supply.turnedBack _ (λ n e. let z : _≡_ {A = ℕ} 0 1 = cc in omega arith)
+
   abbrev Told-fairly : Opening → Type 0
   Told-fairly o = (n : ℕ) → o ≡ Opening.turnedBack n → expected n ≡ true
 
@@ -330,4 +334,5 @@ steady w h s R e = answers (w .medium) (w .state) (reached-upheld w h R) (reache
           opening = opening-answers m t h U r′;
           pick = pick-answers m t h U r′;
           survey = survey-answers m t h U r′;
+          available = available-answers m t h U r′;
         })

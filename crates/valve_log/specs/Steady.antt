@@ -10,8 +10,9 @@ use lib.ListN.{length}
 use Rattle.lists.specs.Lists.{every}
 use Rattle.flash.specs.Medium.{views}
 use Rattle.state.specs.State.{Held}
-use Rattle.readings.specs.Readings.{Opening, openingOf, Pick, pickOf, Survey, surveyOf}
-use Rattle.calls.specs.Calls.{Call, appendOf, commitOf, collectOf}
+use Rattle.recovery.specs.Recovery.{Recovery, recover as recoverOf}
+use Rattle.readings.specs.Readings.{Opening, openingOf, Pick, pickOf, Survey, surveyOf, Supply, availableOf, Answer, readLog}
+use Rattle.calls.specs.Calls.{Call, appendOf, commitOf, collectOf, formatOf}
 use Rattle.step.specs.Step.{Step, stepOf}
 use Rattle.valve_log.specs.History.{History}
 use Rattle.valve_log.specs.Reached.{World, Reached}
@@ -20,7 +21,7 @@ use Rattle.valve_log.specs.Reached.{World, Reached}
 unfoldable pub expected : ℕ → Bool
 expected n = every (not (eqb n 1) ∷ not (eqb n 6) ∷ not (eqb n 7) ∷ not (eqb n 16) ∷ [])
 
--- each call, with any other arguments, where it refuses; picker and survey never do
+-- each call that takes a state, with any other arguments, where it refuses; picker, survey and available pages never do
 pub record Answers (m : List ℕ) (s : Held) : Type 0 where
   pub append : (ks ws : List ℕ) (n : ℕ) → appendOf (length m) (views m) s ks ws ≡ Call.refused n → expected n ≡ true
   pub commit : (n : ℕ) → commitOf (length m) (views m) s ≡ Call.refused n → expected n ≡ true
@@ -29,6 +30,17 @@ pub record Answers (m : List ℕ) (s : Held) : Type 0 where
   pub opening : (valve n : ℕ) → openingOf (length m) (views m) s valve ≡ Opening.turnedBack n → expected n ≡ true
   pub pick : (n : ℕ) → pickOf (length m) (views m) s ≡ Pick.turnedBack n → ⊥
   pub survey : (n : ℕ) → surveyOf (length m) (views m) s ≡ Survey.turnedBack n → ⊥
+  pub available : (n : ℕ) → availableOf (length m) (views m) s ≡ Supply.turnedBack n → ⊥
 
 unfoldable pub Steady : Type 0
 Steady = (w : World) (h : History) (s : Held) → Reached w h → w .state ≡ some s → Answers (w .medium) s
+
+-- The calls that take no state, also where a cut lost it: format and recovery never refuse, and the log, filed into any two lists, is refused
+-- by 17 alone. A page of the medium refuses nothing anywhere.
+pub record AnswersWithoutState (m : List ℕ) : Type 0 where
+  pub format : (n : ℕ) → formatOf (length m) ≡ Call.refused n → ⊥
+  pub recovery : (n : ℕ) → recoverOf (length m) (views m) ≡ Recovery.refused n → ⊥
+  pub log : (ks ws : List ℕ) (n : ℕ) → readLog (length m) (views m) ks ws .answer ≡ Answer.turnedBack n → n ≡ 17
+
+unfoldable pub SteadyWithoutState : Type 0
+SteadyWithoutState = (w : World) (h : History) → Reached w h → AnswersWithoutState (w .medium)
