@@ -1,7 +1,7 @@
 -- The chain from the promises of the code to point 3: the machine moves exactly as the world of the theorem does, so each run of the code is
 -- one of the theorem's lists, and what the theorem says of recovery is what the program is handed.
 use mathlib.Core.Path.{_≡_, refl, sym, ap, _∙_, subst}
-use mathlib.Core.Bool.{true}
+use mathlib.Core.Bool.{Bool, true, false, not}
 use mathlib.Core.Option.{Option, none, some}
 use mathlib.Core.List.{List}
 use Prim.Native.Nat.{ℕ}
@@ -34,13 +34,13 @@ use Rattle.begin.specs.Begun as begun
 use Rattle.advance.specs.declared.Stepped.{Stepped}
 use Rattle.advance.specs.Outcomes as outcomes
 use Rattle.advance.specs.Outcomes.{Outcome, touchedBy, doneOf, outcome, done, performed}
-use Rattle.valve_log.specs.History.{History, start as noHistory, Told, tell}
+use Rattle.valve_log.specs.History.{History, start as noHistory, Told, unchanged, steppedPage, steppedBlock, tell}
 use Rattle.valve_log.specs.Reached as reached
-use Rattle.valve_log.specs.Reached.{World, world, withState, stepDue, Event, called, stepped, recovered, cutShort, happen, Words, end, more, Shows, Point3}
+use Rattle.valve_log.specs.Reached.{World, world, withState, stepDue, Event, called, stepped, recovered, cutShort, happen, accepted, finishes, meanwhile, Words, end, more, Shows, Point3}
 use Rattle.valve_log.specs.Steady.{Steady, Answers}
 use Rattle.valve_log.proofs.Point3.{point3}
 use Rattle.valve_log.proofs.Steady.{steady}
-use Rattle.journal.specs.Run.{Machine, machine, meant, worldOf, goingOn, Moves, Formatting, Run, openingIn, Handed, Point3OfCode}
+use Rattle.journal.specs.Run.{Machine, machine, meant, worldOf, goingOn, Moves, begunBy, steppedBy, recoveredBy, toldBy, saysFinished, finishedBy, meanwhileBy, Formatting, Run, openingIn, Handed, Point3OfCode}
 
 -- ---- one event
 
@@ -122,6 +122,124 @@ moves x y e (Moves.read z) = refl
 moves x y e (Moves.cut m s) = refl
 moves x y e (Moves.cutInside m left s allowed) = cuts (world m (some (meaning s))) left _ allowed
 
+-- ---- what the answers say
+
+-- what a call that begins an operation says
+begins-told : (w : World) (s : State) (t : Told) (c : Call) (r : Begun) → begun.toldOf r ≡ begun.given s c → begunBy r t ≡ called w t c .told
+unfolding called begun.toldOf begunBy
+begins-told w s t (Call.refused n) r e =
+    by-cases (eqb (r .number) 0)
+    (λ q. let y = rw q at e in let z : _≡_ {A = ℕ} 0 1 = cc in absurd (omega arith))
+    (λ q. rw q)
+begins-told w s t (Call.begun h) r e =
+    by-cases (eqb (r .number) 0)
+    (λ q. rw q)
+    (λ q. let y = rw q at e in let z : _≡_ {A = ℕ} 0 1 = cc in absurd (omega arith))
+
+-- what a step's answer says, of what was touched and whether it finished
+unfoldable toldDone : Option outcomes.Done → Told
+toldDone none = unchanged
+toldDone (some (outcomes.turnedBack n s)) = unchanged
+toldDone (some (outcomes.page p finished after)) = steppedPage
+toldDone (some (outcomes.block b finished after)) = steppedBlock
+
+unfoldable finishedDone : Option outcomes.Done → Bool
+finishedDone none = false
+finishedDone (some (outcomes.turnedBack n s)) = false
+finishedDone (some (outcomes.page p finished after)) = finished
+finishedDone (some (outcomes.block b finished after)) = finished
+
+module _ (r : Stepped) where
+  done-told : steppedBy r ≡ toldDone (doneOf r)
+  unfolding steppedBy toldDone doneOf touchedBy
+  done-told =
+      by-cases (eqb (r .number) 0)
+      (λ q. by-cases (eqb (r .touched) 1) (λ k. rw (q, k)) (λ k. by-cases (eqb (r .touched) 2) (λ l. rw (q, k, l)) (λ l. rw (q, k, l))))
+      (λ q. rw q)
+
+  done-finished : (d : outcomes.Done) → doneOf r ≡ some d → saysFinished r ≡ finishedDone (doneOf r)
+  unfolding saysFinished finishedDone doneOf touchedBy
+  done-finished d e =
+      by-cases (eqb (r .number) 0)
+      (λ q. by-cases (eqb (r .touched) 1) (λ k. rw (q, k))
+      (λ k. by-cases (eqb (r .touched) 2) (λ l. rw (q, k, l))
+      (λ l. let y = rw (q, k, l) at e in let z : _≡_ {A = ℕ} 0 1 = cc in absurd (omega arith))))
+      (λ q. rw q)
+
+due-told : (w : World) (s : State) (t : Step) → toldDone (some (done s t)) ≡ stepped w t .told
+unfolding stepped done toldDone
+due-told w s (Step.refused n) = refl
+due-told w s (Step.program p pg x finished) = refl
+due-told w s (Step.erase b x finished) = refl
+
+due-finished : (s : State) (t : Step) → finishedDone (some (done s t)) ≡ finishes t
+unfolding finishes done finishedDone
+due-finished s (Step.refused n) = refl
+due-finished s (Step.program p pg x finished) = refl
+due-finished s (Step.erase b x finished) = refl
+
+module _ (m m′ : List ℕ) (s : State) (t : Step) (r : Stepped) (e : outcome r m′ ≡ performed m s t) where
+  done-is : doneOf r ≡ some (done s t)
+  unfolding performed
+  done-is = ap (λ (o : Outcome). o .done) e
+
+  steps-told : (w : World) → steppedBy r ≡ stepped w t .told
+  steps-told w = done-told r ∙ ap toldDone done-is ∙ due-told w s t
+
+  steps-finished : saysFinished r ≡ finishes t
+  steps-finished = done-finished r (done s t) done-is ∙ ap finishedDone done-is ∙ due-finished s t
+
+-- what a recovery says
+recovers-told : (m : List ℕ) (w : World) (R : Recovery) (r : Recovered) → told.told m r ≡ told.tell R → recoveredBy r ≡ recovered w R .told
+unfolding recovered told.told told.tell recoveredBy
+recovers-told m w (Recovery.refused n) r e =
+    by-cases (eqb (r .number) 0)
+    (λ q. let y = rw q at e in let z : _≡_ {A = ℕ} 0 1 = cc in absurd (omega arith))
+    (λ q. rw q)
+recovers-told m w (Recovery.recovered log h) r e =
+    by-cases (eqb (r .number) 0)
+    (λ q. rw q)
+    (λ q. let y = rw q at e in let z : _≡_ {A = ℕ} 0 1 = cc in absurd (omega arith))
+
+recovers-accepted : (m : List ℕ) (R : Recovery) (r : Recovered) → told.told m r ≡ told.tell R → eqb (r .number) 0 ≡ accepted R
+unfolding accepted told.told told.tell
+recovers-accepted m (Recovery.refused n) r e =
+    by-cases (eqb (r .number) 0)
+    (λ q. let y = rw q at e in let z : _≡_ {A = ℕ} 0 1 = cc in absurd (omega arith))
+    (λ q. q)
+recovers-accepted m (Recovery.recovered log h) r e =
+    by-cases (eqb (r .number) 0)
+    (λ q. q)
+    (λ q. let y = rw q at e in let z : _≡_ {A = ℕ} 0 1 = cc in absurd (omega arith))
+
+-- what the history is told by the answers is what it is told by the definitions
+pub answers-told : (x y : Machine) (e : Event (worldOf x)) (v : Moves x e y) → toldBy x y e v ≡ happen (worldOf x) e .told
+unfolding happen withState meant stepDue toldBy
+answers-told x y e (Moves.append m s ks ws narrow small r p) = begins-told _ s _ _ r p
+answers-told x y e (Moves.commit m s r p) = begins-told _ s _ _ r p
+answers-told x y e (Moves.collect m s b r p) = begins-told _ s _ _ r p
+answers-told x y e (Moves.step m m′ s r p) = steps-told m m′ s _ r p _
+answers-told x y e (Moves.recover m s r p) = recovers-told m _ _ r (p .is)
+answers-told x y e (Moves.read z) = refl
+answers-told x y e (Moves.cut m s) = refl
+answers-told x y e (Moves.cutInside m left s allowed) = refl
+
+-- and so for what may stand in formatting, and for the step that finishes it
+pub answers-meanwhile : (x y : Machine) (e : Event (worldOf x)) (v : Moves x e y) → meanwhileBy x y e v ≡ meanwhile (worldOf x) e
+unfolding meanwhile withState meant stepDue meanwhileBy
+answers-meanwhile x y e (Moves.append m s ks ws narrow small r p) = refl
+answers-meanwhile x y e (Moves.commit m s r p) = refl
+answers-meanwhile x y e (Moves.collect m s b r p) = refl
+answers-meanwhile x y e (Moves.step m m′ s r p) = ap not (steps-finished m m′ s _ r p)
+answers-meanwhile x y e (Moves.recover m s r p) = ap not (recovers-accepted m _ r (p .is))
+answers-meanwhile x y e (Moves.read z) = refl
+answers-meanwhile x y e (Moves.cut m s) = refl
+answers-meanwhile x y e (Moves.cutInside m left s allowed) = refl
+
+pub answers-finished : (x y : Machine) (v : Moves x Event.step y) → finishedBy x y v ≡ finishes (stepDue (worldOf x))
+unfolding withState meant stepDue finishedBy
+answers-finished x y (Moves.step m m′ s r p) = steps-finished m m′ s _ r p
+
 -- ---- lists of events
 
 formats : (m : List ℕ) (c : Call) (r : Begun) → begun.formattedOf r ≡ begun.asFormatted c → r .number ≡ 0 → c ≡ Call.begun (meaning (r .state))
@@ -136,12 +254,15 @@ there P x y e v p = subst P (sym (moves x y e v)) p
 formatting : (x : Machine) → Formatting x → reached.Formatting (worldOf x)
 unfolding meant
 formatting x (Formatting.begun m r b f q) = reached.begun m (meaning (r .state)) b (formats m (formatOf (length m)) r f q)
-formatting x (Formatting.next z y e f ok v) = there reached.Formatting z y e v (reached.next (worldOf z) e (formatting z f) ok)
+formatting x (Formatting.next z y e f v ok) =
+    there reached.Formatting z y e v (reached.next (worldOf z) e (formatting z f) (sym (answers-meanwhile z y e v) ∙ ok))
 
 pub runs : (x : Machine) (h : History) → Run x h → reached.Reached (worldOf x) h
-runs x h (Run.start z y f last v) = there (λ w. reached.Reached w noHistory) z y Event.step v (reached.start (worldOf z) (formatting z f) last)
+runs x h (Run.start z y f v last) =
+    there (λ w. reached.Reached w noHistory) z y Event.step v (reached.start (worldOf z) (formatting z f) (sym (answers-finished z y v) ∙ last))
 runs x h (Run.next z y k e r v) =
-    there (λ w. reached.Reached w (tell k (happen (worldOf z) e .told))) z y e v (reached.next (worldOf z) k e (runs z k r))
+    subst (λ t. reached.Reached (worldOf y) (tell k t)) (sym (answers-told z y e v))
+    (there (λ w. reached.Reached w (tell k (happen (worldOf z) e .told))) z y e v (reached.next (worldOf z) k e (runs z k r)))
 
 -- ---- what the program is handed
 
