@@ -40,7 +40,7 @@ use Rattle.valve_log.specs.Reached.{World, world, withState, stepDue, Event, ca
 use Rattle.valve_log.specs.Steady.{Steady, Answers}
 use Rattle.valve_log.proofs.Point3.{point3}
 use Rattle.valve_log.proofs.Steady.{steady}
-use Rattle.journal.specs.Run.{Machine, machine, meant, worldOf, goingOn, Moves, begunBy, steppedBy, recoveredBy, toldBy, saysFinished, finishedBy, meanwhileBy, Formatting, Run, openingIn, Handed, Point3OfCode}
+use Rattle.journal.specs.Run.{Machine, meant, worldOf, goingOn, Moves, begunBy, steppedBy, recoveredBy, toldBy, saysFinished, finishedBy, meanwhileBy, Formatting, Run, openingIn, Handed, Point3OfCode}
 
 -- ---- one event
 

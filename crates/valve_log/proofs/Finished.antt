@@ -5,6 +5,7 @@ use mathlib.Core.Option.{some}
 use mathlib.Core.List.{List}
 use Prim.Native.Nat.{ℕ, zero, suc, _*_, _/_, _≤_, _<_}
 use native.Mathlib.Omega.{arith}
+use native.Mathlib.Decide.{decLt}
 use lib.ListN.{length, getD}
 use Rattle.lists.specs.Lists.{Bytes}
 use Rattle.lists.specs.Needs.{checked}
@@ -75,6 +76,11 @@ module _ (n : ℕ) (size : sizeOk n ≡ true) where
         let S = sized (length m) size-here in
         erase-due (length m) (views m) (length m / 4096) size-here (omega (arith, length-views m)) (omega (arith, S .low)) k (omega (arith, E .long))
 
+    not-refused : (j : ℕ) → stepDue w ≡ Step.refused j → ⊥
+    not-refused j e =
+        let f = sym (ap stepDue (E .is) ∙ due-is m _ _ erases) ∙ e in
+        let z : _≡_ {A = ℕ} 0 1 = cc in omega arith
+
     goes-on : finishes (stepDue w) ≡ false
     goes-on = ap (λ (x : World). finishes (stepDue x)) (E .is) ∙ ap finishes (due-is m _ _ erases) ∙ erase-open k _
 
@@ -122,6 +128,11 @@ module _ (n : ℕ) (size : sizeOk n ≡ true) where
     here : w ≡ world (E .medium) (some (formatState blocks blocks))
     here = E .is ∙ ap (λ (j : ℕ). world (E .medium) (some (formatState blocks j))) (sym all-there)
 
+    last-not-refused : (j : ℕ) → stepDue w ≡ Step.refused j → ⊥
+    last-not-refused j e =
+        let f = sym (ap stepDue here ∙ due-is (E .medium) _ _ writes) ∙ e in
+        let z : _≡_ {A = ℕ} 0 1 = cc in omega arith
+
     is-over : finishes (stepDue w) ≡ true
     is-over = ap (λ (x : World). finishes (stepDue x)) here ∙ ap finishes (due-is (E .medium) _ _ writes) ∙ program-over (formatted blocks)
 
@@ -152,6 +163,15 @@ module _ (m : List ℕ) (b : Bytes m) (size : sizeOk (length m) ≡ true) where
   not-over : (k : ℕ) → k < length m / 4096 → finishes (stepDue (stepsOn k (first m))) ≡ false
   not-over k h = goes-on (length m) size k h (stepsOn k (first m)) (at k (omega arith))
 
+  all-accepted : (k j : ℕ) → k ≤ length m / 4096 → stepDue (stepsOn k (first m)) ≡ Step.refused j → ⊥
+  all-accepted k j h = go (decLt k (length m / 4096))
+    where
+      go : Dec (k < length m / 4096) → stepDue (stepsOn k (first m)) ≡ Step.refused j → ⊥
+      go (yes q) = not-refused (length m) size k q (stepsOn k (first m)) (at k h) j
+      go (no q) =
+          let e : k ≡ length m / 4096 = omega arith in
+          last-not-refused (length m) size (stepsOn k (first m)) (subst (λ (i : ℕ). Erased (length m) i (stepsOn k (first m))) e (at k h)) j
+
   under-way : (k : ℕ) → k ≤ length m / 4096 → Formatting (stepsOn k (first m))
   unfolding stepsOn
   under-way zero h = Formatting.begun m (formatting (length m / 4096)) b (begun-there (length m) size)
@@ -166,6 +186,7 @@ module _ (m : List ℕ) (b : Bytes m) (size : sizeOk (length m) ≡ true) where
       record {
         state = formatting (length m / 4096);
         begun = begun-there (length m) size;
+        accepted = all-accepted;
         before = not-over;
         last = over;
         reached = Reached.start w (under-way (length m / 4096) k) over;

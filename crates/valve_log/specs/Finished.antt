@@ -4,12 +4,13 @@ use mathlib.Core.Path.{_≡_}
 use mathlib.Core.Bool.{true, false}
 use mathlib.Core.Option.{some}
 use mathlib.Core.List.{List}
-use Prim.Native.Nat.{ℕ, zero, suc, _/_, _<_}
+use Prim.Native.Nat.{ℕ, zero, suc, _/_, _≤_, _<_}
 use lib.ListN.{length}
 use Rattle.lists.specs.Lists.{Bytes}
 use Rattle.blocks.specs.Blocks.{sizeOk}
 use Rattle.state.specs.State.{Held}
 use Rattle.calls.specs.Calls.{Call, formatOf}
+use Rattle.step.specs.Step.{Step}
 use Rattle.valve_log.specs.History.{start as noHistory}
 use Rattle.valve_log.specs.Reached.{World, world, stepDue, Event, happen, finishes, Reached}
 
@@ -18,11 +19,12 @@ unfoldable pub stepsOn : ℕ → World → World
 stepsOn zero w = w
 stepsOn (suc n) w = happen (stepsOn n w) Event.step .after
 
--- Formatting of medium m: format is not refused; none of the steps before finishes, the one after a step for each block does; and the world
--- it leaves is one that point 3 speaks of, with a medium as long as m.
+-- Formatting of medium m: format is not refused, nor is any step; a step for each block does not finish it, the next one does; and the world
+-- that it leaves is one that point 3 speaks of, with a medium as long as m.
 pub record Finished (m : List ℕ) : Type 0 where
   pub state : Held
   pub begun : formatOf (length m) ≡ Call.begun state
+  pub accepted : (n k : ℕ) → n ≤ length m / 4096 → stepDue (stepsOn n (world m (some state))) ≡ Step.refused k → ⊥
   pub before : (n : ℕ) → n < length m / 4096 → finishes (stepDue (stepsOn n (world m (some state)))) ≡ false
   pub last : finishes (stepDue (stepsOn (length m / 4096) (world m (some state)))) ≡ true
   pub reached : Reached (stepsOn (suc (length m / 4096)) (world m (some state))) noHistory

@@ -1,0 +1,230 @@
+-- A run of the code can start on every medium of allowed length.
+use mathlib.Core.Path.{_≡_, refl, sym, ap, _∙_}
+use mathlib.Core.Bool.{true}
+use mathlib.Core.Option.{some}
+use mathlib.Core.List.{List, []}
+use Prim.Native.Nat.{ℕ, zero, suc, _/_, _≤_, _<_}
+use native.Mathlib.Omega.{arith}
+use lib.Dec.{eqb}
+use lib.ListN.{length, getD}
+use lib.Seq.{ext-getD}
+use borrow.Author.Tests.{eqb-true}
+use Rattle.lists.specs.declared.Cell.{Cell}
+use Rattle.lists.specs.declared.Cells.{Cells}
+use Rattle.lists.specs.Lists.{Bytes, first}
+use Rattle.lists.specs.Cells.{cell, pairs, listed, keysOf, wordsOf}
+use Rattle.lists.proofs.Laws.{by-cases, length-table, get-table, length-first, get-first, key-at, word-at}
+use Rattle.flash.specs.Medium.{views}
+use Rattle.state.specs.declared.State.{State}
+use Rattle.state.specs.State.{Pending, idle, append, commit, collect, format, unnamed, Held, held, pendingOf, meaning}
+use Rattle.step.specs.Step.{Step, stepOf, mediumAfter}
+use Rattle.begin.specs.declared.Begun.{Begun}
+use Rattle.begin.specs.Begun as begun
+use Rattle.advance.specs.declared.Stepped.{Stepped}
+use Rattle.advance.specs.Outcomes.{page, block, pageDone, doneOf, touchedBy, outcome, done, performed}
+use Rattle.valve_log.specs.History.{start as noHistory}
+use Rattle.valve_log.specs.Reached.{World, world, withState, stepDue, Event, happen, finishes, meanwhile}
+use Rattle.valve_log.specs.Finished.{stepsOn, Finished, FormattingFinishes}
+use Rattle.valve_log.proofs.Finished.{formatting-finishes}
+use Rattle.journal.specs.Run.{Machine, machine, meant, worldOf, Moves, Formatting, Run}
+use Rattle.journal.specs.Started.{Formatted, RunsStart}
+use Rattle.journal.proofs.Chain.{moves, answers-meanwhile, answers-finished}
+
+-- ---- whatever the answers are
+
+-- format's answer where the definition begins
+module _ (r : Begun) (h : Held) (e : begun.formattedOf r ≡ begun.Formatted.ready h) where
+  format-number : r .number ≡ 0
+  unfolding begun.toldOf
+  format-number =
+      by-cases (eqb (r .number) 0) (λ q. eqb-true (r .number) 0 q)
+      (λ q. let y = rw q at e in let z : _≡_ {A = ℕ} 0 1 = cc in absurd (omega arith))
+
+  format-state : meaning (r .state) ≡ h
+  unfolding begun.toldOf
+  format-state =
+      by-cases (eqb (r .number) 0) (λ q. let y = rw q at e in cc)
+      (λ q. let y = rw q at e in let z : _≡_ {A = ℕ} 0 1 = cc in absurd (omega arith))
+
+module _ (m : List ℕ) (bytes : Bytes m) (F : Finished m) where
+  abbrev worldAt : ℕ → World
+  worldAt n = stepsOn n (world m (some (F .state)))
+
+  -- after n steps formatting is under way, in the world that the definitions lead to
+  record Way (n : ℕ) (x : Machine) : Type 0 where
+    pub under-way : Formatting x
+    pub is : worldOf x ≡ worldAt n
+
+  stands : (n : ℕ) (x : Machine) → worldOf x ≡ worldAt n → n < length m / 4096 → meanwhile (worldOf x) Event.step ≡ true
+  unfolding meanwhile
+  stands n x e h = ap (λ (w : World). meanwhile w Event.step) e ∙ rw (F .before n h)
+
+  way : (n : ℕ) (x : Machine) → Formatted m n x → n ≤ length m / 4096 → Way n x
+  unfolding stepsOn meant
+  way n x (Formatted.begun r p) h =
+      let e : begun.formattedOf r ≡ begun.Formatted.ready (F .state) = p ∙ ap begun.asFormatted (F .begun) in
+      record {
+        under-way = Formatting.begun m r bytes p (format-number r (F .state) e);
+        is = ap (λ (s : Held). world m (some s)) (format-state r (F .state) e);
+      }
+  way n x (Formatted.step k now after s r G p) h =
+      let W = way k (machine now (some s)) G (omega arith) in
+      let v : Moves (machine now (some s)) Event.step (machine after (some (r .state))) = Moves.step now after s r p in
+      record {
+        under-way =
+            Formatting.next (machine now (some s)) (machine after (some (r .state))) Event.step (W .under-way) v
+            (answers-meanwhile (machine now (some s)) (machine after (some (r .state))) Event.step v ∙ stands k (machine now (some s)) (W .is) (omega arith));
+        is =
+            moves (machine now (some s)) (machine after (some (r .state))) Event.step v
+            ∙ ap (λ (w : World). happen w Event.step .after) (W .is);
+      }
+
+  runs-then : (n : ℕ) (x : Machine) → Formatted m n x → n ≡ suc (length m / 4096) → Run x noHistory
+  runs-then n x (Formatted.begun r p) e = absurd (omega arith)
+  runs-then n x (Formatted.step k now after s r G p) e =
+      let q : k ≡ length m / 4096 = omega arith in
+      let W = way k (machine now (some s)) G (omega arith) in
+      let v : Moves (machine now (some s)) Event.step (machine after (some (r .state))) = Moves.step now after s r p in
+      Run.start (machine now (some s)) (machine after (some (r .state))) (W .under-way) v
+      (answers-finished (machine now (some s)) (machine after (some (r .state))) v
+      ∙ ap (λ (w : World). finishes (stepDue w)) (W .is ∙ ap worldAt q) ∙ F .last)
+
+-- ---- answers that meet the promises
+
+-- each list of cells is what some struct stands for
+abbrev cellsOf : List Cell → Cells
+cellsOf l = record { count = length l; keys = keysOf l; vals = wordsOf l }
+
+listed-cells : (l : List Cell) → listed (cellsOf l) ≡ l
+unfolding pairs
+listed-cells l =
+    let n = length-table (λ (j : ℕ). cell (getD (keysOf l) j 0) (getD (wordsOf l) j 0)) (cell 0 0) (length l) in
+    ext-getD (cell 0 0) (pairs (length l) (keysOf l) (wordsOf l)) l n
+    (λ i h. get-table (λ (j : ℕ). cell (getD (keysOf l) j 0) (getD (wordsOf l) j 0)) (cell 0 0) (length l) i (omega (arith, n)) ∙ rw (key-at l i, word-at l i))
+
+first-all : (ps : List ℕ) → first 0 (length ps) ps ≡ ps
+first-all ps =
+    let n = length-first {A = ℕ} 0 (length ps) ps in
+    ext-getD 0 (first 0 (length ps) ps) ps n (λ i h. get-first {A = ℕ} 0 (length ps) i ps (omega (arith, n)))
+
+-- what is pending, in a struct's numbers and lists
+unfoldable operationOf : Pending → ℕ
+operationOf idle = 0
+operationOf (append es ps) = 1
+operationOf (commit k) = 2
+operationOf (collect b) = 3
+operationOf (format n) = 4
+operationOf unnamed = 5
+
+unfoldable progressOf : Pending → ℕ
+progressOf idle = 0
+progressOf (append es ps) = length ps
+progressOf (commit k) = k
+progressOf (collect b) = b
+progressOf (format n) = n
+progressOf unnamed = 0
+
+unfoldable groupOf : Pending → List Cell
+groupOf idle = []
+groupOf (append es ps) = es
+groupOf (commit k) = []
+groupOf (collect b) = []
+groupOf (format n) = []
+groupOf unnamed = []
+
+unfoldable pagesOf : Pending → List ℕ
+pagesOf idle = []
+pagesOf (append es ps) = ps
+pagesOf (commit k) = []
+pagesOf (collect b) = []
+pagesOf (format n) = []
+pagesOf unnamed = []
+
+pending-same : (p : Pending) → pendingOf (operationOf p) (progressOf p) (cellsOf (groupOf p)) (pagesOf p) ≡ p
+unfolding pendingOf operationOf progressOf groupOf pagesOf
+pending-same idle = refl
+pending-same (append es ps) = ap (λ (l : List Cell). append l (first 0 (length ps) ps)) (listed-cells es) ∙ ap (append es) (first-all ps)
+pending-same (commit k) = refl
+pending-same (collect b) = refl
+pending-same (format n) = refl
+pending-same unnamed = refl
+
+-- whatever a state may hold, some struct holds it
+abbrev stateOf : Held → State
+stateOf h =
+    record {
+      head = h .head;
+      index = cellsOf (h .index);
+      group = cellsOf (groupOf (h .pending));
+      pages = pagesOf (h .pending);
+      operation = operationOf (h .pending);
+      progress = progressOf (h .pending);
+    }
+
+state-same : (h : Held) → meaning (stateOf h) ≡ h
+state-same h = ap (λ (l : List Cell). held (h .head) l (meaning (stateOf h) .pending)) (listed-cells (h .index)) ∙ ap (held (h .head) (h .index)) (pending-same (h .pending))
+
+-- a step that is not refused has an answer
+record Answered (m : List ℕ) (s : State) (t : Step) : Type 0 where
+  pub answer : Stepped
+  pub meets : outcome answer (mediumAfter m t) ≡ performed m s t
+
+answered : (m : List ℕ) (s : State) (t : Step) → ((k : ℕ) → t ≡ Step.refused k → ⊥) → Answered m s t
+unfolding performed done doneOf touchedBy
+answered m s (Step.refused n) f = absurd (f n refl)
+answered m s (Step.program p pg h finished) f =
+    record {
+      answer = pageDone p finished (stateOf h);
+      meets = ap (λ (x : Held). record { done = some (page p finished x); medium = mediumAfter m (Step.program p pg h finished) }) (state-same h);
+    }
+answered m s (Step.erase b h finished) f =
+    record {
+      answer = record { number = 0; touched = 2; finished = finished; at = b; state = stateOf h };
+      meets = ap (λ (x : Held). record { done = some (block b finished x); medium = mediumAfter m (Step.erase b h finished) }) (state-same h);
+    }
+
+module _ (m : List ℕ) (bytes : Bytes m) (F : Finished m) where
+  record There (n : ℕ) : Type 0 where
+    pub now : List ℕ
+    pub state : State
+    pub formatted : Formatted m n (machine now (some state))
+
+  begun-there : There 0
+  unfolding begun.toldOf
+  begun-there =
+      record {
+        now = m;
+        state = stateOf (F .state);
+        formatted =
+            Formatted.begun (record { number = 0; state = stateOf (F .state) })
+            (ap begun.Formatted.ready (state-same (F .state)) ∙ sym (ap begun.asFormatted (F .begun)));
+      }
+
+  due-accepted : (n : ℕ) (now : List ℕ) (s : State) → worldOf (machine now (some s)) ≡ worldAt m bytes F n → n ≤ length m / 4096
+      → (k : ℕ) → stepOf (length now) (views now) (meaning s) ≡ Step.refused k → ⊥
+  unfolding stepDue withState meant
+  due-accepted n now s e h k q = F .accepted n k h (sym (ap stepDue e) ∙ q)
+
+  there : (n : ℕ) → n ≤ suc (length m / 4096) → There n
+  there zero h = begun-there
+  there (suc n) h =
+      let T = there n (omega arith) in
+      let W = way m bytes F n (machine (T .now) (some (T .state))) (T .formatted) (omega arith) in
+      let t = stepOf (length (T .now)) (views (T .now)) (meaning (T .state)) in
+      let A = answered (T .now) (T .state) t (due-accepted n (T .now) (T .state) (W .is) (omega arith)) in
+      record {
+        now = mediumAfter (T .now) t;
+        state = A .answer .state;
+        formatted = Formatted.step n (T .now) (mediumAfter (T .now) t) (T .state) (A .answer) (T .formatted) (A .meets);
+      }
+
+pub runs-start : RunsStart
+unfolding RunsStart FormattingFinishes
+runs-start m bytes size =
+    let F = formatting-finishes m bytes size in
+    let T = there m bytes F (suc (length m / 4096)) (omega arith) in
+    record {
+      whatever = λ x G. runs-then m bytes F (suc (length m / 4096)) x G refl;
+      then = machine (T .now) (some (T .state));
+      answered = T .formatted;
+    }
