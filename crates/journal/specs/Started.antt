@@ -22,7 +22,7 @@ pub data Formatted (m : List ℕ) : ℕ → Machine → Type 0 where
   step : (n : ℕ) (now after : List ℕ) (s : State) (r : Stepped) → Formatted m n (machine now (some s)) → Steps now s r after
       → Formatted m (suc n) (machine after (some (r .state)))
 
--- Whatever these calls answer, a run has started; and there are answers that meet the promises.
+-- Whatever these calls answer, a run has started; and there are structs that meet the promises, so that this speaks of something.
 pub record Started (m : List ℕ) : Type 0 where
   pub whatever : (x : Machine) → Formatted m (suc (length m / 4096)) x → Run x noHistory
   pub then : Machine
