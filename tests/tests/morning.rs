@@ -1,0 +1,85 @@
+//! The program `morning` against the second implementation: what it prints, on
+//! many media.
+
+mod common;
+
+use common::{append, commit, formatted};
+use journal_tests::random::{self, Random};
+use journal_tests::reader::{self, REMOVAL};
+use std::collections::BTreeMap;
+use std::io::{ErrorKind, Write};
+use std::process::{Command, Stdio};
+
+/// What the proved program prints for a medium.
+fn printed(medium: &[u8]) -> String {
+    let program = concat!(env!("CARGO_MANIFEST_DIR"), "/../target/bin/morning");
+    let mut child = Command::new(program)
+        .stdin(Stdio::piped())
+        .stdout(Stdio::piped())
+        .spawn()
+        .expect("target/bin/morning, which `rt check morning` writes");
+    // The program may close its input once it has read enough.
+    if let Err(error) = child.stdin.take().expect("its input").write_all(medium) {
+        assert_eq!(error.kind(), ErrorKind::BrokenPipe);
+    }
+    let output = child.wait_with_output().expect("its output");
+    String::from_utf8(output.stdout).expect("text")
+}
+
+/// Both print the same; how often each line was printed is added up.
+fn same(medium: &[u8], lines: &mut BTreeMap<String, usize>) {
+    let text = printed(medium);
+    assert_eq!(text, reader::morning(medium));
+    for line in text.lines() {
+        *lines.entry(line.to_string()).or_insert(0) += 1;
+    }
+}
+
+/// A medium whose groups set and remove the first and the last valves.
+fn at_the_ends(random: &mut Random) -> Vec<u8> {
+    let (mut medium, mut state) = formatted(random.from_to(4, 16));
+    for _ in 0..random.below(40) {
+        let mut entry = || {
+            let valve = random.one_of(&[0, 1, 255, 256, 32766, 32767]);
+            if random.one_in(2) {
+                (valve + REMOVAL, 0)
+            } else {
+                (valve, random.word())
+            }
+        };
+        let group: Vec<(u16, u64)> = (0..5).map(|_| entry()).collect();
+        append(&mut medium, &mut state, &group[random.below(5)..]);
+    }
+    if random.one_in(4) {
+        commit(&mut medium, &mut state);
+    }
+    medium
+}
+
+#[test]
+fn prints_what_the_second_implementation_prints() {
+    let (mut random, mut lines) = (Random::new(48), BTreeMap::new());
+    for events in 0..250 {
+        let mut medium = random::lived(&mut random, events).medium;
+        same(&medium, &mut lines);
+        random::damage(&mut random, &mut medium);
+        same(&medium, &mut lines);
+        same(&at_the_ends(&mut random), &mut lines);
+    }
+    let often = ["0 -", "32767 -", "log 0", "set 0", "refused 1", "refused 2", "refused 4"];
+    for line in often {
+        let times = lines.get(line).copied().unwrap_or(0);
+        assert!(times >= 5, "{times} times: {line}");
+    }
+}
+
+/// No byte, too few, and too many: whatever they are.
+#[test]
+fn a_length_that_is_not_allowed() {
+    let journal = at_the_ends(&mut Random::new(49));
+    for length in [0, 1, 12288, 16383, 65535, 65537, 65792, 69632, 131072] {
+        let mut medium = journal.clone();
+        medium.resize(length, 0xFF);
+        assert_eq!(printed(&medium), "refused 1\n", "{length} bytes");
+    }
+}
