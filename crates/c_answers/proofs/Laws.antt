@@ -1,5 +1,5 @@
 -- Laws of the answers for C, in the shapes that the code's proofs ask.
-use mathlib.Core.Path.{_≡_, refl, sym, ap, _∙_}
+use mathlib.Core.Path.{_≡_, sym, ap, _∙_}
 use mathlib.Core.List.{List, []}
 use Prim.Native.Nat.{ℕ, _+_, _*_, _/_, _%_, _≤_, _<_}
 use native.Mathlib.Omega.{arith}
@@ -13,32 +13,9 @@ use Rattle.lists.proofs.Laws.{by-cases, length-table, get-table}
 use Rattle.flash.specs.Medium.{views, pageAt}
 use Rattle.state.specs.declared.State.{State}
 use Rattle.state.specs.State.{meaning}
-use Rattle.recovery.specs.Recovery.{Recovery, refused, recovered, recover}
-use Rattle.recover.specs.declared.Recovered.{Recovered}
-use Rattle.recover.specs.Told as told
-use Rattle.recover.specs.Told.{Told, tell, Recovers}
 use Rattle.read.specs.Answers.{surveyedOf}
 use Rattle.readings.specs.Readings.{surveyOf}
-use Rattle.c_answers.specs.Forms.{Found, found, foundBy, IsPage, joined, joinedIn, surveyBy}
-
--- ---- recovery
-
--- what is told, with the log left out
-unfoldable short : Told → Found
-short (told.turnedBack n) = Found.turnedBack n
-short (told.state es s) = Found.state s
-
-short-tell : (R : Recovery) → short (tell R) ≡ found R
-unfolding short tell found
-short-tell (refused n) = refl
-short-tell (recovered log s) = refl
-
-short-told : (m : List ℕ) (r : Recovered) → foundBy (record { number = r .number; state = r .state }) ≡ short (told.told m r)
-unfolding short told.told foundBy
-short-told m r = by-cases (eqb (r .number) 0) (λ h. rw h) (λ h. rw h)
-
-pub found-is : (m : List ℕ) (r : Recovered) → Recovers m r → foundBy (record { number = r .number; state = r .state }) ≡ found (recover (length m) (views m))
-found-is m r t = short-told m r ∙ ap short (t .is) ∙ short-tell (recover (length m) (views m))
+use Rattle.c_answers.specs.Forms.{IsPage, joined, joinedIn, surveyBy}
 
 -- ---- pages
 

@@ -1,4 +1,4 @@
--- What the answers for C say that the library's own do not: recovery without its log, the place of a page, the survey in one list.
+-- What the answers for C say that the library's own do not: the place of a page, the survey in one list.
 use mathlib.Core.Path.{_≡_}
 use mathlib.Core.Bool.{cond}
 use mathlib.Core.List.{List, []}
@@ -9,31 +9,10 @@ use Rattle.lists.specs.Lists.{table}
 use Rattle.codec.specs.Codec.{part}
 use Rattle.flash.specs.Medium.{views, pageAt}
 use Rattle.state.specs.declared.State.{State}
-use Rattle.state.specs.State.{Held, meaning}
-use Rattle.recovery.specs.Recovery.{Recovery, refused, recovered, recover}
+use Rattle.state.specs.State.{meaning}
 use Rattle.readings.specs.Readings.{Survey, counts, surveyOf}
-use Rattle.c_answers.specs.declared.VjRecovered.{VjRecovered}
 use Rattle.c_answers.specs.declared.VjPart.{VjPart}
 use Rattle.c_answers.specs.declared.VjSurvey.{VjSurvey}
-
--- ---- recovery: a refusal, or the state
-
-pub data Found : Type 0 where
-  turnedBack : ℕ → Found
-  state : Held → Found
-
--- what a recovery comes to, with its log left out
-unfoldable pub found : Recovery → Found
-found (refused n) = turnedBack n
-found (recovered log s) = state s
-
--- what the call's answer says
-unfoldable pub foundBy : VjRecovered → Found
-foundBy r = cond (eqb (r .number) 0) (state (meaning (r .state))) (turnedBack (r .number))
-
--- what `recovered` promises of a medium m
-abbrev pub Finds : List ℕ → VjRecovered → Type 0
-Finds m r = foundBy r ≡ found (recover (length m) (views m))
 
 -- ---- pages
 

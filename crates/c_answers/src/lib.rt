@@ -1,14 +1,7 @@
-// Answers in the forms that C takes, where the library's own is none: recovery without its log, the survey in one list, the place of a page.
+// Answers in the forms that C takes, where the library's own is none: the survey in one list, the place of a page.
 ghost use mathlib.Core.Path.{_≡_};
-ghost use Rattle.c_answers.specs.Forms.{Finds, IsPage, joined as joined-of, SurveysInOne};
+ghost use Rattle.c_answers.specs.Forms.{IsPage, joined as joined-of, SurveysInOne};
 use state::State;
-
-// What recovery found: 0 and the state, or a refusal's number. What the state of a refusal holds means nothing.
-#[repr(C)]
-pub struct VjRecovered {
-    pub number: u8,
-    pub state: State,
-}
 
 // A part of the medium.
 #[repr(C)]
@@ -22,18 +15,6 @@ pub struct VjPart {
 pub struct VjSurvey {
     pub number: u8,
     pub counts: [u16; 48],
-}
-
-// Recovery of a medium of any length.
-pub fn recovered(m: &[u8]) -> VjRecovered
-    ensures { λ r. ⌜ Finds (now (m .entry)) r ⌝ }
-{
-    let r = recover::recover(m);
-    let state = r.state;
-    VjRecovered {
-        number: r.number,
-        state: state,
-    }
 }
 
 // Where page p stands in the medium; nothing at 0 where the medium lacks one of its bytes.

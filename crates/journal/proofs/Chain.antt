@@ -91,7 +91,7 @@ steps m m′ s t r e =
     ap (λ (l : List ℕ). world l (some (meaning (r .state)))) y ∙ ap (λ (x : Held). world (mediumAfter m t) (some x)) z ∙ left m s t
 
 -- a recovery
-recovers : (m : List ℕ) (s : Option State) (R : Recovery) (r : Recovered) → told.told m r ≡ told.tell R
+recovers : (m : List ℕ) (s : Option State) (R : Recovery) (r : Recovered) → told.told (r .number) (r .state) ≡ told.tell R
     → world m (meant (goingOn r s)) ≡ recovered (world m (meant s)) R .after
 unfolding recovered told.told told.tell goingOn meant
 recovers m s (Recovery.refused n) r e =
@@ -117,7 +117,7 @@ moves x y e (Moves.append m s ks ws narrow small r p) = begins m s _ _ r p
 moves x y e (Moves.commit m s r p) = begins m s _ _ r p
 moves x y e (Moves.collect m s b r p) = begins m s _ _ r p
 moves x y e (Moves.step m m′ s r p) = steps m m′ s _ r p
-moves x y e (Moves.recover m s r p) = recovers m s _ r (p .is)
+moves x y e (Moves.recover m s r p) = recovers m s _ r p
 moves x y e (Moves.read z) = refl
 moves x y e (Moves.cut m s) = refl
 moves x y e (Moves.cutInside m left s allowed) = cuts (world m (some (meaning s))) left _ allowed
@@ -300,9 +300,9 @@ words-open v valve (more {k} {a} {w} {index} {settings} q t) =
 
 -- recovery's answer where the definition accepts
 module _ (m : List ℕ) (log : List (List Entry)) (s : Held) (a : recoverOf (length m) (views m) ≡ Recovery.recovered log s) (r : Recovered) (p : Recovers m r) where
-  says : told.told m r ≡ told.state (changesOf log) s
+  says : told.told (r .number) (r .state) ≡ told.state s
   unfolding told.tell
-  says = p .is ∙ ap told.tell a
+  says = p ∙ ap told.tell a
 
   found-number : r .number ≡ 0
   unfolding told.told

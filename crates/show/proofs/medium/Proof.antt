@@ -1,0 +1,69 @@
+use Rattle.recover.proofs.Accepted.{recovered-few}
+use borrow.Author.Needs.{needs}
+use Rattle.show.proofs.medium.Statement.{statement}
+use Rattle.show.proofs.medium.Tie as tie
+
+recover-requires : tie.Need-recover-requires
+recover-requires c κs = search needs
+
+refused-requires : tie.Need-refused-requires
+refused-requires c κs = search needs
+
+returns : tie.Need-returns
+returns c = search needs
+
+no-keys-requires : tie.Need-no-keys-requires
+no-keys-requires c κs = search needs
+
+no-words-requires : tie.Need-no-words-requires
+no-words-requires c κs = search needs
+
+slice-aggregate-log : tie.Need-slice-aggregate-log
+slice-aggregate-log c = search needs
+
+slice-aggregate-log-2 : tie.Need-slice-aggregate-log-2
+slice-aggregate-log-2 c = search needs
+
+log-requires : tie.Need-log-requires
+log-requires c κs = search needs
+
+refused-requires-2 : tie.Need-refused-requires-2
+refused-requires-2 c κs = search needs
+
+returns-2 : tie.Need-returns-2
+returns-2 c = search needs
+
+slice-aggregate-changes : tie.Need-slice-aggregate-changes
+slice-aggregate-changes c = search needs
+
+slice-aggregate-changes-2 : tie.Need-slice-aggregate-changes-2
+slice-aggregate-changes-2 c = search needs
+
+changes-requires : tie.Need-changes-requires
+changes-requires c κs = search needs
+
+settings-requires : tie.Need-settings-requires
+settings-requires c κs = search recovered-few
+
+returns-3 : tie.Need-returns-3
+returns-3 c = search needs
+
+pub medium-spec : {M : Type 1} → statement M
+medium-spec =
+    tie.close
+    (tie.spec
+    recover-requires
+    refused-requires
+    returns
+    no-keys-requires
+    no-words-requires
+    slice-aggregate-log
+    slice-aggregate-log-2
+    log-requires
+    refused-requires-2
+    returns-2
+    slice-aggregate-changes
+    slice-aggregate-changes-2
+    changes-requires
+    settings-requires
+    returns-3)
