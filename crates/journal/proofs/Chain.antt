@@ -190,24 +190,24 @@ module _ (m m′ : List ℕ) (s : State) (t : Step) (r : Stepped) (e : outcome r
   steps-finished = done-finished r (done s t) done-is ∙ ap finishedDone done-is ∙ due-finished s t
 
 -- what a recovery says
-recovers-told : (m : List ℕ) (w : World) (R : Recovery) (r : Recovered) → told.told m r ≡ told.tell R → recoveredBy r ≡ recovered w R .told
+recovers-told : (w : World) (R : Recovery) (r : Recovered) → told.told (r .number) (r .state) ≡ told.tell R → recoveredBy r ≡ recovered w R .told
 unfolding recovered told.told told.tell recoveredBy
-recovers-told m w (Recovery.refused n) r e =
+recovers-told w (Recovery.refused n) r e =
     by-cases (eqb (r .number) 0)
     (λ q. let y = rw q at e in let z : _≡_ {A = ℕ} 0 1 = cc in absurd (omega arith))
     (λ q. rw q)
-recovers-told m w (Recovery.recovered log h) r e =
+recovers-told w (Recovery.recovered log h) r e =
     by-cases (eqb (r .number) 0)
     (λ q. rw q)
     (λ q. let y = rw q at e in let z : _≡_ {A = ℕ} 0 1 = cc in absurd (omega arith))
 
-recovers-accepted : (m : List ℕ) (R : Recovery) (r : Recovered) → told.told m r ≡ told.tell R → eqb (r .number) 0 ≡ accepted R
+recovers-accepted : (R : Recovery) (r : Recovered) → told.told (r .number) (r .state) ≡ told.tell R → eqb (r .number) 0 ≡ accepted R
 unfolding accepted told.told told.tell
-recovers-accepted m (Recovery.refused n) r e =
+recovers-accepted (Recovery.refused n) r e =
     by-cases (eqb (r .number) 0)
     (λ q. let y = rw q at e in let z : _≡_ {A = ℕ} 0 1 = cc in absurd (omega arith))
     (λ q. q)
-recovers-accepted m (Recovery.recovered log h) r e =
+recovers-accepted (Recovery.recovered log h) r e =
     by-cases (eqb (r .number) 0)
     (λ q. q)
     (λ q. let y = rw q at e in let z : _≡_ {A = ℕ} 0 1 = cc in absurd (omega arith))
@@ -219,7 +219,7 @@ answers-told x y e (Moves.append m s ks ws narrow small r p) = begins-told _ s _
 answers-told x y e (Moves.commit m s r p) = begins-told _ s _ _ r p
 answers-told x y e (Moves.collect m s b r p) = begins-told _ s _ _ r p
 answers-told x y e (Moves.step m m′ s r p) = steps-told m m′ s _ r p _
-answers-told x y e (Moves.recover m s r p) = recovers-told m _ _ r (p .is)
+answers-told x y e (Moves.recover m s r p) = recovers-told _ _ r p
 answers-told x y e (Moves.read z) = refl
 answers-told x y e (Moves.cut m s) = refl
 answers-told x y e (Moves.cutInside m left s allowed) = refl
@@ -231,7 +231,7 @@ answers-meanwhile x y e (Moves.append m s ks ws narrow small r p) = refl
 answers-meanwhile x y e (Moves.commit m s r p) = refl
 answers-meanwhile x y e (Moves.collect m s b r p) = refl
 answers-meanwhile x y e (Moves.step m m′ s r p) = ap not (steps-finished m m′ s _ r p)
-answers-meanwhile x y e (Moves.recover m s r p) = ap not (recovers-accepted m _ r (p .is))
+answers-meanwhile x y e (Moves.recover m s r p) = ap not (recovers-accepted _ r p)
 answers-meanwhile x y e (Moves.read z) = refl
 answers-meanwhile x y e (Moves.cut m s) = refl
 answers-meanwhile x y e (Moves.cutInside m left s allowed) = refl
