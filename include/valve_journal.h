@@ -71,11 +71,12 @@ enum {
 /* What the journal keeps between calls. */
 typedef struct VjState {
     VjHead head;
-    VjCells index;     /* the valves that are set, ascending, each with the address of its entry */
-    VjCells group;     /* the entries of a pending append; else it means nothing */
-    uint16_t pages[4]; /* the pages that a pending append has written, the first `progress`; else they mean nothing */
-    uint8_t operation; /* what is pending: VJ_IDLE to VJ_FORMAT */
-    uint64_t progress; /* how far it is, or its block */
+    VjCells index;       /* the valves that are set, ascending, each with the address of its entry */
+    VjCells group;       /* the entries of a pending append; else it means nothing */
+    uint16_t pages[4];   /* the pages that a pending append has written, the first `progress`; else they mean nothing */
+    uint8_t operation;   /* what is pending: VJ_IDLE to VJ_FORMAT */
+    uint64_t progress;   /* how far it is, or its block */
+    uint8_t erased[256]; /* for each block 1 where a step erased it since recovery or since formatting began; any other number is no record */
 } VjState;
 
 /* What vj_recover answers. */
@@ -168,8 +169,8 @@ VjPick vj_pick(const uint8_t *medium, size_t medium_length, VjState state);
 /* The pages of each block, counted by what they are. Refuses 1 and 7. */
 VjSurvey vj_survey(const uint8_t *medium, size_t medium_length, VjState state);
 
-/* The pages that can still be written: those left in the head block, and sixteen for each wholly clean block other than the head. Refuses
- * 1 and 7. */
+/* The pages that can still be written: those left in the head block, and sixteen for each wholly clean block other than the head, whether
+ * or not a step erased it. Refuses 1 and 7. */
 VjPages vj_available(const uint8_t *medium, size_t medium_length, VjState state);
 
 /* The next four calls begin an operation. The medium stays as it is: vj_step does the work. */
@@ -189,7 +190,15 @@ VjBegun vj_commit(const uint8_t *medium, size_t medium_length, VjState state);
 VjBegun vj_collect(const uint8_t *medium, size_t medium_length, VjState state, uint64_t block);
 
 /* Makes one device step of the pending operation: it programs one clean page, or erases one block. No other byte of the medium changes,
- * and on a refusal none does. Refuses 1, 7, 9, 6 where an entry to move is not there, 14 for a page to program, and 16, in this order. */
+ * and on a refusal none does.
+ *
+ * A block that reads clean can be weak if its erase was cut. So where the next page of an append, a commit or a collection is the first of a
+ * new head block and the state has no record that this block was erased, the step erases the block: it touches VJ_BLOCK, the operation
+ * is not finished, and the next step programs the page. After a recovery no block has the record; formatting erases them all. A driver
+ * carries this erase to the chip like any other, though the block reads FFh already.
+ *
+ * Refuses 1, 7, 9, 6 where an entry to move is not there, 14 for a page to program, and 16, in this order; a step that erases only 1, 7
+ * and 9. */
 VjStepped vj_step(uint8_t *medium, size_t medium_length, VjState state);
 
 #ifdef __cplusplus

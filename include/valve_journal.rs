@@ -32,6 +32,7 @@ pub struct VjState {
     pub pages: [u16; 4],
     pub operation: u8,
     pub progress: u64,
+    pub erased: [u8; 256],
 }
 
 /// The values of [`VjState::operation`]; any other names no operation.

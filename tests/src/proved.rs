@@ -57,7 +57,8 @@ impl From<&State> for VjState {
             base: state.first_base_serial,
         };
         let index = VjCells::of(state.index.iter().map(|place| (place.valve, place.address)));
-        VjState { head, index, group, pages, operation, progress }
+        let erased = state.erased.map(u8::from);
+        VjState { head, index, group, pages, operation, progress, erased }
     }
 }
 
@@ -75,6 +76,7 @@ impl VjState {
             first_base_serial: self.head.base,
             index: self.index.used()?.map(place).collect(),
             pending: self.pending()?,
+            erased: self.erased.map(|number| number == 1),
         })
     }
 
@@ -206,4 +208,4 @@ pub fn step(medium: &mut [u8], state: &mut VjState) -> Result<Step, Refused> {
     Ok(Step { touched, finished: r.finished == 1 })
 }
 
-const _: () = assert!(MAX_VALVES == 192 && size_of::<VjState>() == 3920);
+const _: () = assert!(MAX_VALVES == 192 && size_of::<VjState>() == 4176);

@@ -4,7 +4,7 @@
 use crate::history::{Event, History};
 use crate::reader::{
     self, Class, Entry, Page, Place, Refused, BASE, BLOCK_BYTES, BLOCK_PAGES, GROUP_ENTRIES,
-    MAX_BLOCKS, MAX_VALVES, MIN_BLOCKS, MOVED, NODES, PAGE_BYTES, PAGE_ENTRIES, REMOVAL,
+    MAX_BLOCKS, MAX_VALVES, MIN_BLOCKS, MOVED, NODES, PAGE_BYTES, PAGE_ENTRIES, RECORDS, REMOVAL,
 };
 use crate::writer::{self, lay_page, put_page, seal, Pending, State, Step, Touched};
 
@@ -177,6 +177,8 @@ pub enum Outcome {
 #[derive(Clone, Debug)]
 pub struct Life {
     pub medium: Vec<u8>,
+    /// Whether each block is weak: its last erase was cut, or is not known.
+    pub weak: Vec<bool>,
     pub state: Option<State>,
     pub history: Option<History>,
     habits: Habits,
@@ -215,7 +217,8 @@ impl Life {
             1 => medium.fill(0),
             _ => random.fill(&mut medium),
         }
-        Life { medium, state: None, history: None, habits: Habits::new(random), full: 0 }
+        let (weak, habits) = (vec![true; blocks], Habits::new(random));
+        Life { medium, weak, state: None, history: None, habits, full: 0 }
     }
 
     /// Whether formatting was finished and nothing was begun since.
@@ -248,7 +251,7 @@ impl Life {
             return self.any_call(random, state);
         }
         if state.pending.is_some() {
-            return self.go_on(random, formatting);
+            return self.go_on(random, state, formatting);
         }
         self.begin(random, state)
     }
@@ -264,9 +267,15 @@ impl Life {
         }
     }
 
-    /// A step, or a cut.
-    fn go_on(&self, random: &mut Random, formatting: bool) -> Action {
-        let times = if formatting { 200 } else { self.habits.cut_one_in };
+    /// A step, or a cut: in most lives rare, but often in an erase that comes
+    /// before a first page.
+    fn go_on(&self, random: &mut Random, state: &State, formatting: bool) -> Action {
+        let erase_due = reader::erase_due(&self.medium, state).is_some();
+        let times = match self.habits.cut_one_in {
+            _ if formatting => 200,
+            times if erase_due => times.min(4),
+            times => times,
+        };
         if !random.one_in(times) {
             return Action::Step;
         }
@@ -459,6 +468,7 @@ impl Life {
     /// A step was made. The last one of formatting starts a history; this step
     /// itself is not of the list.
     fn stepped(&mut self, step: Step, formatting: bool) {
+        self.touch(step.touched, false);
         if formatting && step.finished {
             self.history = Some(History::new());
         } else {
@@ -469,6 +479,15 @@ impl Life {
         }
         if step.finished {
             self.full = 0;
+        }
+    }
+
+    /// A page is programmed in no weak block; an erase leaves its block weak
+    /// exactly if it was cut.
+    fn touch(&mut self, touched: Touched, cut: bool) {
+        match touched {
+            Touched::Page(page) => assert!(!self.weak[page / BLOCK_PAGES], "a weak block"),
+            Touched::Block(block) => self.weak[block] = cut,
         }
     }
 
@@ -483,6 +502,7 @@ impl Life {
         let Some(mut state) = self.state.take() else { return self.cut_between() };
         let mut after = self.medium.clone();
         let Ok(step) = writer::step(&mut after, &mut state) else { return self.cut_between() };
+        self.touch(step.touched, true);
         let complete = cut_step(&mut self.medium, &after, &step.touched, mask);
         self.feed(Event::Cut { complete });
         Outcome::Cut { struck: Some(step.touched), complete }
@@ -1071,7 +1091,7 @@ fn stray_address(random: &mut Random, sketch: &mut Sketch, way: usize) {
 /// Changes one thing about a state, so that it is unfit or only odd.
 pub fn damage_state(random: &mut Random, state: &mut State) {
     let blocks = state.blocks;
-    match random.below(12) {
+    match random.below(13) {
         0 => state.blocks = random.from_to(MIN_BLOCKS, MAX_BLOCKS),
         1 => state.head = random.below(blocks + 2),
         2 => state.next_page = random.below(BLOCK_PAGES + 2),
@@ -1083,7 +1103,17 @@ pub fn damage_state(random: &mut Random, state: &mut State) {
         8 => state.pending = Some(Pending::Commit { done: random.below(10) as u64 }),
         9 => state.pending = Some(Pending::Collect { block: random.below(blocks + 1) }),
         10 => state.pending = Some(Pending::Format { erased: random.below(blocks + 2) }),
+        11 => state.erased = some_records(random),
         _ => state.pending = Some(some_pending_append(random)),
+    }
+}
+
+/// Records of erased blocks: none, all, or any.
+fn some_records(random: &mut Random) -> [bool; RECORDS] {
+    match random.below(4) {
+        0 => [false; RECORDS],
+        1 => [true; RECORDS],
+        _ => std::array::from_fn(|_| random.one_in(2)),
     }
 }
 

@@ -56,9 +56,8 @@ fn pages_of_an_append() {
         let (mut medium, mut state) = formatted(4);
         let steps = append(&mut medium, &mut state, &valves(0, entries));
         assert_eq!(steps.len(), pages);
-        let touched: Vec<Touched> = steps.iter().map(|step| step.touched).collect();
         let expected: Vec<Touched> = (1..=pages).map(Touched::Page).collect();
-        assert_eq!(touched, expected);
+        assert_eq!(touched(&steps), expected);
     }
     let (medium, mut state) = formatted(4);
     assert_eq!(begin_append(&medium, &mut state, &valves(0, 97)), refused(10));
@@ -125,8 +124,9 @@ fn cut_after_the_first_page_of_thirty_entries() {
     assert!(replay.log().is_empty());
     let mut state = replay.state;
     assert_eq!((state.head, state.next_page, state.next_serial), (0, 16, 3));
+    // Block 1 is erased before serial 3.
     let steps = append(&mut medium, &mut state, &[(5, 1)]);
-    assert_eq!(steps[0].touched, Touched::Page(16));
+    assert_eq!(touched(&steps), [Touched::Block(1), Touched::Page(16)]);
     assert_eq!(Page::of(&medium, 16).expect("page 16").serial(), 3);
     assert_eq!(recover(&medium).expect("recovery").index, state.index);
 }
@@ -159,10 +159,9 @@ fn format_erases_upward_and_ends_with_the_base() {
     assert_eq!((state.head, state.next_page), (4, 16));
     assert_eq!((state.next_serial, state.first_base_serial), (1, 0));
     let steps = finish(&mut medium, &mut state);
-    let touched: Vec<Touched> = steps.iter().map(|step| step.touched).collect();
     let mut expected: Vec<Touched> = (0..5).map(Touched::Block).collect();
     expected.push(Touched::Page(0));
-    assert_eq!(touched, expected);
+    assert_eq!(touched(&steps), expected);
     assert_eq!((state.head, state.next_page), (0, 1));
     assert_eq!((state.next_serial, state.first_base_serial), (2, 1));
     assert_eq!(state.pending, None);
@@ -198,8 +197,7 @@ fn collection_moves_in_address_order_and_erases() {
     assert_eq!(pick(&medium, &state), Ok(Some(0)));
     writer::collect(&medium, &mut state, 0).expect("collect");
     let steps = finish(&mut medium, &mut state);
-    let touched: Vec<Touched> = steps.iter().map(|step| step.touched).collect();
-    assert_eq!(touched, [Touched::Page(17), Touched::Block(0)]);
+    assert_eq!(touched(&steps), [Touched::Page(17), Touched::Block(0)]);
     let moved = Page::of(&medium, 17).expect("page 17");
     assert_eq!((moved.kind(), moved.flags()), (MOVED, 3));
     let entries: Vec<Entry> = moved.entries().collect();

@@ -20,13 +20,14 @@ fn check(life: &Life) {
     }
 }
 
-/// The state at hand is the one recovery gives, but for the next page and
-/// what is pending; and it is fit.
+/// The state at hand is the one recovery gives, but for the next page, what is
+/// pending and the records of erased blocks; and it is fit.
 fn check_state_kept(medium: &[u8], state: &State, recovered: &State) {
     assert!(fit(medium, state));
     let mut closed = state.clone();
     closed.next_page = BLOCK_PAGES;
     closed.pending = None;
+    closed.erased = recovered.erased;
     assert_eq!(&closed, recovered);
 }
 
@@ -38,13 +39,24 @@ fn run(seed: u64, lives: usize, events: usize) -> BTreeMap<String, usize> {
         let mut life = Life::new(&mut random);
         for _ in 0..events {
             let action = life.next_action(&mut random);
+            let given = Given::to(&life);
             let outcome = life.act(&action);
             check(&life);
-            *happened.entry(happening(&action, outcome)).or_insert(0) += 1;
+            let more = circumstances(&given, &action, outcome);
+            for name in more.into_iter().chain([happening(&action, outcome)]) {
+                *happened.entry(name).or_insert(0) += 1;
+            }
         }
     }
     happened
 }
+
+/// Erases before a first page, made and cut.
+const ERASES: [&str; 3] = [
+    "erase before a page",
+    "erase before a page, the block being weak",
+    "cut inside the erase before a page",
+];
 
 #[test]
 fn log_and_settings_are_the_history() {
@@ -63,6 +75,9 @@ fn log_and_settings_are_the_history() {
     ];
     for name in all {
         assert!(happened.contains_key(name), "never: {name}");
+    }
+    for name in ERASES {
+        assert!(happened.get(name).is_some_and(|&times| times >= 200), "rare: {name}");
     }
     assert!(!happened.contains_key("step refused 16"));
     assert!(!happened.contains_key("step refused 7"));

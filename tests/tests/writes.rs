@@ -11,11 +11,11 @@
 
 mod common;
 
-use common::{blank, happening, refused, valves};
+use common::{blank, circumstances, happening, pending_name, refused, valves, Given};
 use journal_tests::proved::{self, VjCells, VjState};
 use journal_tests::random::{self, cut_step, Action, Life, Outcome, Random, Reading};
 use journal_tests::reader::{self, Entry, Refused, BLOCK_BYTES, PAGE_BYTES, REMOVAL};
-use journal_tests::writer::{self, Pending, State, Step, Touched};
+use journal_tests::writer::{self, State, Step, Touched};
 use std::collections::BTreeMap;
 use std::time::Instant;
 
@@ -161,7 +161,8 @@ fn thirty_entries_cut_after_their_first_page() {
     assert_eq!(journal.step(), Ok(Step { touched: Touched::Page(1), finished: false }));
     assert_eq!(journal.log(), []);
     journal.state = proved::recover(&journal.medium).expect("recovery");
-    assert_eq!(journal.append(&[(5, 1)]), [Touched::Page(16)]);
+    // Block 1 is erased before serial 3.
+    assert_eq!(journal.append(&[(5, 1)]), [Touched::Block(1), Touched::Page(16)]);
     assert_eq!(journal.medium[16 * 256 + 8], 3);
     assert_eq!(journal.log(), [(5, 1)]);
 }
@@ -381,45 +382,6 @@ fn same<T: PartialEq + std::fmt::Debug>(
     second.map(drop)
 }
 
-/// The name of what is pending.
-fn pending_name(state: Option<&State>) -> &'static str {
-    match state.and_then(|state| state.pending.as_ref()) {
-        None => "nothing",
-        Some(Pending::Append { .. }) => "append",
-        Some(Pending::Commit { .. }) => "commit",
-        Some(Pending::Collect { .. }) => "collection",
-        Some(Pending::Format { .. }) => "formatting",
-    }
-}
-
-/// More of what happened: how large what was begun is, what was finished or
-/// cut. `before` is the state that the action was given.
-fn circumstances(before: Option<&State>, action: &Action, outcome: Outcome) -> Option<String> {
-    let pending = pending_name(before);
-    match outcome {
-        Outcome::Accepted => begun(before, action).map(String::from),
-        Outcome::Stepped(step) if step.finished => Some(format!("{pending} finished")),
-        Outcome::Cut { struck: Some(_), .. } => Some(format!("cut inside {pending}")),
-        _ => None,
-    }
-}
-
-/// The size of what was begun.
-fn begun(before: Option<&State>, action: &Action) -> Option<&'static str> {
-    let state = before?;
-    match action {
-        Action::Append { keys, .. } if keys.len() > 24 => Some("append of several pages"),
-        Action::Commit if state.index.len() > 24 => Some("commit of several pages"),
-        Action::Collect { block } => Some(match reader::live_count(state, *block) {
-            0 => "collection of no page",
-            1..=24 => "collection of one page",
-            _ => "collection of several pages",
-        }),
-        Action::Format if state.pending.is_some() => Some("format while something is pending"),
-        _ => None,
-    }
-}
-
 /// One list of calls and cuts, compared event by event.
 fn live(seed: u64, events: u64, counts: &mut Counts) {
     let _seed = Seed(seed);
@@ -431,10 +393,10 @@ fn live(seed: u64, events: u64, counts: &mut Counts) {
             twins.grow_old(random.one_of(&[3, 20, 100, 250]));
         }
         let action = twins.life.next_action(&mut random);
-        let before = twins.life.state.clone();
+        let given = Given::to(&twins.life);
         let outcome = twins.act(&action);
         count(counts, happening(&action, outcome));
-        if let Some(name) = circumstances(before.as_ref(), &action, outcome) {
+        if let Some(name) = circumstances(&given, &action, outcome) {
             count(counts, name);
         }
         let cut = matches!(outcome, Outcome::Cut { .. });
@@ -460,7 +422,8 @@ const HAPPENINGS: [(usize, &[&str]); 2] = [
         "commit finished", "collection finished", "formatting finished",
         "cut between nothing", "cut inside page", "cut inside page complete",
         "cut inside block", "cut inside append", "cut inside commit", "cut inside collection",
-        "cut soon after a cut",
+        "cut soon after a cut", "erase before a page", "cut inside the erase before a page",
+        "erase before a page, the block being weak",
     ]),
     (5, &[
         "append refused 10", "append refused 11", "commit refused 13", "commit refused 14",
@@ -772,18 +735,22 @@ fn fill_idle_places(random: &mut Random, state: &mut VjState) {
     if state.operation == proved::IDLE {
         state.progress = some_number(random);
     }
+    for number in state.erased.iter_mut().filter(|number| **number != 1) {
+        *number = random.one_of(&[0, 2, 128, 255]);
+    }
     assert_eq!(state.meaning(), meaning);
 }
 
 /// Changes fields of a state as the library has it, one or all.
 fn damage_fields(random: &mut Random, state: &mut VjState) {
-    match random.below(8) {
+    match random.below(9) {
         0 => state.operation = random.from_to(5, 255) as u8,
         1 => state.operation = random.below(5) as u8,
         2 => state.index.count = random.one_of(&[193, 194, 1 << 32, usize::MAX]),
         3 => state.group.count = some_number(random) as usize,
         4 | 5 => state.progress = some_number(random),
         6 => state.pages = std::array::from_fn(|_| random.bits() as u16),
+        7 => random.fill(&mut state.erased),
         _ => {
             let blocks = state.head.blocks;
             *state = any_state(random);
@@ -809,6 +776,7 @@ fn any_state(random: &mut Random) -> VjState {
     state.pages = std::array::from_fn(|_| random.bits() as u16);
     state.operation = random.below(7) as u8;
     state.progress = some_number(random);
+    random.fill(&mut state.erased);
     state
 }
 

@@ -5,6 +5,7 @@ ghost use lib.ListN.{length};
 use show::line;
 use show::text;
 use state::State;
+use trials::APPEND;
 use trials::APPENDED;
 use trials::BYTE;
 use trials::COLLECTED;
@@ -158,26 +159,28 @@ fn cut() {
     show::medium(&m);
 }
 
-// The next append after the cut.
+// The next append after the cut: its two steps.
 fn next_append() {
+    let calls = [
+        FORMATTED,
+        VALVES,
+        30,
+        0,
+        STEP,
+        RECOVER,
+        APPEND,
+        1,
+        5,
+        1000,
+        STEP,
+        STEP,
+    ];
     let mut m = [255u8; 16384];
-    let t = trials::play(
-        &mut m,
-        &[
-            FORMATTED,
-            VALVES,
-            30,
-            0,
-            STEP,
-            RECOVER,
-            APPENDED,
-            1,
-            5,
-            1000,
-        ],
-    );
-    let p = t.touched;
-    part(b"the next append starts in block ", (p / 16) as u64);
+    let t = trials::play(&mut m, &calls[..11]);
+    line(b"the next append erases block ", t.touched as u64);
+    let u = trials::play(&mut m, &calls);
+    let p = u.touched;
+    part(b"it starts in block ", (p / 16) as u64);
     part(b", page ", (p % 16) as u64);
     line(b", serial ", flash::page_serial(&m, p));
 }

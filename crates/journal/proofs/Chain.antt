@@ -242,7 +242,7 @@ answers-finished x y (Moves.step m m′ s r p) = steps-finished m m′ s _ r p
 
 -- ---- lists of events
 
-formats : (m : List ℕ) (c : Call) (r : Begun) → begun.formattedOf r ≡ begun.asFormatted c → r .number ≡ 0 → c ≡ Call.begun (meaning (r .state))
+pub formats : (m : List ℕ) (c : Call) (r : Begun) → begun.formattedOf r ≡ begun.asFormatted c → r .number ≡ 0 → c ≡ Call.begun (meaning (r .state))
 unfolding begun.toldOf
 formats m (Call.refused n) r e q = let y = rw (eq-eqb (r .number) 0 q) at e in let z : _≡_ {A = ℕ} 0 1 = cc in absurd (omega arith)
 formats m (Call.begun h) r e q = let y = rw (eq-eqb (r .number) 0 q) at e in let z : meaning (r .state) ≡ h = cc in rw z

@@ -1,6 +1,6 @@
 -- A run of the code can start on every medium of allowed length.
-use mathlib.Core.Path.{_≡_, refl, sym, ap, _∙_}
-use mathlib.Core.Bool.{true}
+use mathlib.Core.Path.{_≡_, refl, sym, ap, subst, _∙_}
+use mathlib.Core.Bool.{Bool, true, false}
 use mathlib.Core.Option.{some}
 use mathlib.Core.List.{List, []}
 use Prim.Native.Nat.{ℕ, zero, suc, _/_, _≤_, _<_}
@@ -11,12 +11,13 @@ use lib.Seq.{ext-getD}
 use borrow.Author.Tests.{eqb-true}
 use Rattle.lists.specs.declared.Cell.{Cell}
 use Rattle.lists.specs.declared.Cells.{Cells}
-use Rattle.lists.specs.Lists.{Bytes, first}
+use Rattle.lists.specs.Lists.{Bytes, first, table, oneIf}
 use Rattle.lists.specs.Cells.{cell, pairs, listed, keysOf, wordsOf}
 use Rattle.lists.proofs.Laws.{by-cases, length-table, get-table, length-first, get-first, key-at, word-at}
 use Rattle.flash.specs.Medium.{views}
 use Rattle.state.specs.declared.State.{State}
-use Rattle.state.specs.State.{Pending, idle, append, commit, collect, format, unnamed, Held, held, pendingOf, meaning}
+use Rattle.state.specs.State.{Pending, idle, append, commit, collect, format, unnamed, Held, held, wasErased, pendingOf, recordsOf, meaning}
+use Rattle.state.proofs.Records.{records-length, record-is}
 use Rattle.step.specs.Step.{Step, stepOf, mediumAfter}
 use Rattle.begin.specs.declared.Begun.{Begun}
 use Rattle.begin.specs.Begun as begun
@@ -25,7 +26,9 @@ use Rattle.advance.specs.Outcomes.{page, block, pageDone, doneOf, touchedBy, ou
 use Rattle.valve_log.specs.History.{start as noHistory}
 use Rattle.valve_log.specs.Reached.{World, world, withState, stepDue, Event, happen, finishes, meanwhile}
 use Rattle.valve_log.specs.Finished.{stepsOn, Finished, FormattingFinishes}
+use Rattle.valve_log.specs.Weak.{Weak, afterErase}
 use Rattle.valve_log.proofs.Finished.{formatting-finishes}
+use Rattle.valve_log.proofs.Weak.{Guard, Careful, step-careful, begun-guard}
 use Rattle.journal.specs.Run.{Machine, machine, meant, worldOf, Moves, Formatting, Run}
 use Rattle.journal.specs.Started.{Formatted, RunsStart}
 use Rattle.journal.proofs.Chain.{moves, answers-meanwhile, answers-finished}
@@ -149,7 +152,19 @@ pending-same (collect b) = refl
 pending-same (format n) = refl
 pending-same unnamed = refl
 
--- whatever a state may hold, some struct holds it
+-- records of erased blocks, in numbers
+unfoldable numbersOf : List Bool → List ℕ
+numbersOf e = table (length e) (λ b. oneIf (getD e b false))
+
+records-same : (e : List Bool) (blocks : ℕ) → length e ≡ blocks → recordsOf blocks (numbersOf e) ≡ e
+unfolding numbersOf wasErased oneIf
+records-same e blocks l =
+    ext-getD false (recordsOf blocks (numbersOf e)) e (records-length blocks (numbersOf e) ∙ sym l) (λ b h.
+    let i : b < blocks = omega (arith, records-length blocks (numbersOf e)) in
+    let g : getD (numbersOf e) b 0 ≡ oneIf (getD e b false) = get-table (λ (c : ℕ). oneIf (getD e c false)) 0 (length e) b (omega arith) in
+    record-is blocks (numbersOf e) b i ∙ by-cases (getD e b false) (λ q. rw (g, q)) (λ q. rw (g, q)))
+
+-- whatever a state may hold, with a record for each block, some struct holds it
 abbrev stateOf : Held → State
 stateOf h =
     record {
@@ -159,45 +174,73 @@ stateOf h =
       pages = pagesOf (h .pending);
       operation = operationOf (h .pending);
       progress = progressOf (h .pending);
+      erased = numbersOf (h .erased);
     }
 
-state-same : (h : Held) → meaning (stateOf h) ≡ h
-state-same h = ap (λ (l : List Cell). held (h .head) l (meaning (stateOf h) .pending)) (listed-cells (h .index)) ∙ ap (held (h .head) (h .index)) (pending-same (h .pending))
+state-same : (h : Held) → length (h .erased) ≡ h .head .blocks → meaning (stateOf h) ≡ h
+state-same h l =
+    ap (λ (x : List Cell). held (h .head) x (meaning (stateOf h) .pending) (meaning (stateOf h) .erased)) (listed-cells (h .index))
+    ∙ ap (λ (x : Pending). held (h .head) (h .index) x (meaning (stateOf h) .erased)) (pending-same (h .pending))
+    ∙ ap (held (h .head) (h .index) (h .pending)) (records-same (h .erased) (h .head .blocks) l)
+
+-- a struct that holds what a state of formatting does, which has a record for each block
+record Standing (h : Held) : Type 0 where
+  pub is : meaning (stateOf h) ≡ h
+  pub weak : Weak
+  pub guard : Guard weak (meaning (stateOf h))
+
+standing : (weak : Weak) (h : Held) → Guard weak h → Standing h
+standing weak h G =
+    let e = state-same h (G .long) in
+    record { is = e; weak = weak; guard = subst (Guard weak) (sym e) G }
 
 -- a step that is not refused has an answer
 record Answered (m : List ℕ) (s : State) (t : Step) : Type 0 where
   pub answer : Stepped
+  pub weak : Weak
+  pub guard : Guard weak (meaning (answer .state))
   pub meets : outcome answer (mediumAfter m t) ≡ performed m s t
 
-answered : (m : List ℕ) (s : State) (t : Step) → ((k : ℕ) → t ≡ Step.refused k → ⊥) → Answered m s t
-unfolding performed done doneOf touchedBy
-answered m s (Step.refused n) f = absurd (f n refl)
-answered m s (Step.program p pg h finished) f =
+answered : (m : List ℕ) (s : State) (t : Step) (weak : Weak) → Careful weak t → ((k : ℕ) → t ≡ Step.refused k → ⊥) → Answered m s t
+unfolding performed done doneOf touchedBy Careful
+answered m s (Step.refused n) weak C f = absurd (f n refl)
+answered m s (Step.program p pg h finished) weak C f =
+    let S = standing weak h (C .1) in
     record {
       answer = pageDone p finished (stateOf h);
-      meets = ap (λ (x : Held). record { done = some (page p finished x); medium = mediumAfter m (Step.program p pg h finished) }) (state-same h);
+      weak = S .weak;
+      guard = S .guard;
+      meets = ap (λ (x : Held). record { done = some (page p finished x); medium = mediumAfter m (Step.program p pg h finished) }) (S .is);
     }
-answered m s (Step.erase b h finished) f =
+answered m s (Step.erase b h finished) weak C f =
+    let S = standing (afterErase b false weak) h C in
     record {
       answer = record { number = 0; touched = 2; finished = finished; at = b; state = stateOf h };
-      meets = ap (λ (x : Held). record { done = some (block b finished x); medium = mediumAfter m (Step.erase b h finished) }) (state-same h);
+      weak = S .weak;
+      guard = S .guard;
+      meets = ap (λ (x : Held). record { done = some (block b finished x); medium = mediumAfter m (Step.erase b h finished) }) (S .is);
     }
 
 module _ (m : List ℕ) (bytes : Bytes m) (F : Finished m) where
   record There (n : ℕ) : Type 0 where
     pub now : List ℕ
     pub state : State
+    pub weak : Weak
+    pub guard : Guard weak (meaning state)
     pub formatted : Formatted m n (machine now (some state))
 
   begun-there : There 0
   unfolding begun.toldOf
   begun-there =
+      let S = standing (λ b. true) (F .state) (begun-guard (λ b. true) (length m) (F .state) (F .begun)) in
       record {
         now = m;
         state = stateOf (F .state);
+        weak = S .weak;
+        guard = S .guard;
         formatted =
             Formatted.begun (record { number = 0; state = stateOf (F .state) })
-            (ap begun.Formatted.ready (state-same (F .state)) ∙ sym (ap begun.asFormatted (F .begun)));
+            (ap begun.Formatted.ready (S .is) ∙ sym (ap begun.asFormatted (F .begun)));
       }
 
   due-accepted : (n : ℕ) (now : List ℕ) (s : State) → worldOf (machine now (some s)) ≡ worldAt m bytes F n → n ≤ length m / 4096
@@ -211,10 +254,13 @@ module _ (m : List ℕ) (bytes : Bytes m) (F : Finished m) where
       let T = there n (omega arith) in
       let W = way m bytes F n (machine (T .now) (some (T .state))) (T .formatted) (omega arith) in
       let t = stepOf (length (T .now)) (views (T .now)) (meaning (T .state)) in
-      let A = answered (T .now) (T .state) t (due-accepted n (T .now) (T .state) (W .is) (omega arith)) in
+      let C = step-careful (T .weak) (T .now) (meaning (T .state)) (T .guard) in
+      let A = answered (T .now) (T .state) t (T .weak) C (due-accepted n (T .now) (T .state) (W .is) (omega arith)) in
       record {
         now = mediumAfter (T .now) t;
         state = A .answer .state;
+        weak = A .weak;
+        guard = A .guard;
         formatted = Formatted.step n (T .now) (mediumAfter (T .now) t) (T .state) (A .answer) (T .formatted) (A .meets);
       }
 

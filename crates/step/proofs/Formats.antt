@@ -1,6 +1,6 @@
 -- The steps of formatting: none is refused on a medium of allowed length.
-use mathlib.Core.Path.{_≡_, _∙_}
-use mathlib.Core.Bool.{true, false}
+use mathlib.Core.Path.{_≡_, refl, _∙_}
+use mathlib.Core.Bool.{Bool, true, false}
 use mathlib.Core.List.{List, []}
 use Prim.Native.Nat.{ℕ, suc, _/_, _≤_, _<_}
 use native.Mathlib.Omega.{arith}
@@ -10,28 +10,30 @@ use Rattle.lists.specs.Needs.{checked}
 use Rattle.page.specs.Pages.{View, clean, page, isClean}
 use Rattle.flash.specs.Medium.{seen}
 use Rattle.blocks.specs.Blocks.{sizeOk}
-use Rattle.state.specs.State.{format, isIdle}
-use Rattle.calls.specs.Calls.{starting, serialsFor, formatting}
-use Rattle.calls.proofs.Laws.{formatting-fit}
-use Rattle.step.specs.Step.{Step, formatted, programming, formatStep, due, stepOf}
+use Rattle.state.specs.State.{nowErased, isIdle}
+use Rattle.calls.specs.Calls.{serialsFor, formatting}
+use Rattle.calls.proofs.Laws.{formatState, formatting-fit}
+use Rattle.step.specs.Step.{Step, formatted, erasing, programming, formatStep, due, stepOf}
+use Rattle.step.proofs.Laws.{format-adds-none}
 
-erases : (v : List View) (blocks k : ℕ) → k < blocks → formatStep v (starting (formatting blocks) (format k)) k ≡ Step.erase k (starting (formatting blocks) (format (suc k))) false
-unfolding formatStep formatting
-erases v blocks k h = rw (lt-ltb k blocks h)
+erases : (v : List View) (blocks k : ℕ) (r : List Bool) → k < blocks → formatStep v (formatState blocks k r) k ≡ Step.erase k (formatState blocks (suc k) (nowErased r k)) false
+unfolding formatStep formatting erasing
+erases v blocks k r h = rw (lt-ltb k blocks h)
 
-writes : (v : List View) (blocks : ℕ) → seen v 0 ≡ clean → formatStep v (starting (formatting blocks) (format blocks)) blocks ≡ Step.program 0 (page 2 3 1 []) (formatted blocks) true
+writes : (v : List View) (blocks : ℕ) (r : List Bool) → seen v 0 ≡ clean
+    → formatStep v (formatState blocks blocks r) blocks ≡ Step.program 0 (page 2 3 1 []) (formatted (formatState blocks blocks r)) true
 unfolding formatStep formatting programming checked serialsFor isClean
-writes v blocks c = rw (le-ltb blocks blocks (omega arith), c)
+writes v blocks r c = rw (le-ltb blocks blocks (omega arith), c)
 
-module _ (n : ℕ) (v : List View) (blocks : ℕ) (size : sizeOk n ≡ true) (e : blocks ≡ length v / 16) (low : 1 ≤ blocks) where
-  format-due : (k : ℕ) → k ≤ blocks → stepOf n v (starting (formatting blocks) (format k)) ≡ formatStep v (starting (formatting blocks) (format k)) k
+module _ (n : ℕ) (v : List View) (blocks : ℕ) (r : List Bool) (size : sizeOk n ≡ true) (e : blocks ≡ length v / 16) (low : 1 ≤ blocks) where
+  format-due : (k : ℕ) → k ≤ blocks → stepOf n v (formatState blocks k r) ≡ formatStep v (formatState blocks k r) k
   unfolding stepOf checked due isIdle
-  format-due k few = rw (size, formatting-fit v blocks k e low few)
+  format-due k few = rw (size, formatting-fit v blocks k r e low few) (format-adds-none v (formatState blocks k r) (formatStep v (formatState blocks k r) k) k refl)
 
   -- with k blocks erased, block k is erased
-  pub erase-due : (k : ℕ) → k < blocks → stepOf n v (starting (formatting blocks) (format k)) ≡ Step.erase k (starting (formatting blocks) (format (suc k))) false
-  erase-due k h = format-due k (omega arith) ∙ erases v blocks k h
+  pub erase-due : (k : ℕ) → k < blocks → stepOf n v (formatState blocks k r) ≡ Step.erase k (formatState blocks (suc k) (nowErased r k)) false
+  erase-due k h = format-due k (omega arith) ∙ erases v blocks k r h
 
   -- with all of them erased and page 0 clean, the base is written and formatting is finished
-  pub base-due : seen v 0 ≡ clean → stepOf n v (starting (formatting blocks) (format blocks)) ≡ Step.program 0 (page 2 3 1 []) (formatted blocks) true
-  base-due c = format-due blocks (omega arith) ∙ writes v blocks c
+  pub base-due : seen v 0 ≡ clean → stepOf n v (formatState blocks blocks r) ≡ Step.program 0 (page 2 3 1 []) (formatted (formatState blocks blocks r)) true
+  base-due c = format-due blocks (omega arith) ∙ writes v blocks r c

@@ -19,17 +19,18 @@ use Rattle.page.specs.Rules.{lawful}
 use Rattle.page.proofs.Written.{Narrow}
 use Rattle.flash.specs.Medium.{seen}
 use Rattle.flash.proofs.Cuts.{CutViews}
-use Rattle.blocks.specs.Blocks.{sizeOk, reachesBase, oldBlock, pageDue, collectible}
+use Rattle.blocks.specs.Blocks.{sizeOk, reachesBase, oldBlock, newHead, pageDue, collectible}
 use Rattle.nodes.specs.Nodes.{inBlock, sound, words, live, wordAt}
 use Rattle.state.specs.State.{Pending, idle, Held, doneFit, basePages, pendingFit, fit, isIdle}
-use Rattle.calls.specs.Calls.{starting, serialsFor}
+use Rattle.calls.specs.Calls.{serialsFor}
 use Rattle.recovery.specs.Recovery.{Placed, Group}
-use Rattle.step.specs.Step.{Step, isLast, groupPage, appended, committed, collected, pageNeeds, programming, appendStep, commitStep, moveStep, collectStep, due, stepOf}
+use Rattle.step.specs.Step.{Step, isLast, groupPage, appended, committed, collected, erasing, erasedFirst, pageNeeds, programming, appendStep, commitStep, moveStep, collectStep, due, stepOf}
+use Rattle.step.proofs.Laws.{first-cases}
 use Rattle.valve_log.specs.History.{UnderWay, collecting, History, counted}
 use Rattle.index.proofs.Members.{In, in-take, in-all, all-in}
 use Rattle.nodes.proofs.Alive.{in-live, words-length}
 use Rattle.valve_log.proofs.Index.{valves, not-live, words-outside, sound-outside}
-use Rattle.valve_log.proofs.Views.{cut-lost, word-same}
+use Rattle.valve_log.proofs.Views.{cut-lost, clean-same, word-same}
 use Rattle.valve_log.proofs.Groups.{page-most}
 use Rattle.valve_log.proofs.Small.{small-part, small-places, small-words, SmallWords, narrow}
 use Rattle.valve_log.proofs.Sound.{Sound, lost-sound}
@@ -81,7 +82,7 @@ old-page v base b e q lo hi =
     rw i at (not-true (reachesBase base (seen v (16 * b + (q - 16 * b)))) o)
 
 module _ (v : List View) (s : Held) (h : History) {ch : List Placed} {gs : List Group} (S : Sound v (h .log) (h .settings) (s .head .base) ch gs (s .index)) (ser : s .head .serial ≡ s .head .base + length ch) (facts : Fits v s) where
-  erase-good : (b : ℕ) → collectible v (s .head) b ≡ true → live (s .index) b ≡ [] → Erases v h b (starting s idle)
+  erase-good : (b : ℕ) → collectible v (s .head) b ≡ true → live (s .index) b ≡ [] → Erases v h b (erasing s b idle)
   erase-good b c e =
       record {
         inside = let k : b < s .head .blocks = ltb-true b (s .head .blocks) (unfold collectible in every-at 0 _ c) in omega (arith, facts .size);
@@ -103,7 +104,7 @@ module _ (v : List View) (s : Held) (h : History) {ch : List Placed} {gs : List 
       outside : all (opposite (inBlock b)) (s .index) ≡ true
       outside = not-live (s .index) b e
 
-      after : (w : List View) → CutViews v (16 * b) 16 v w → Coupled w (some (starting s idle)) h
+      after : (w : List View) → CutViews v (16 * b) 16 v w → Coupled w (some (erasing s b idle)) h
       after w cut =
           record {
             b = s .head .base;
@@ -113,8 +114,34 @@ module _ (v : List View) (s : Held) (h : History) {ch : List Placed} {gs : List 
             medium =
                 lost-sound S w (cut .size) (cut-lost (s .head .base) v w (16 * b) 16 cut old)
                 (sound-outside v w (opposite (inBlock b)) (s .index) outside (keeps w cut) ∙ S .sounds) (words-outside v w (opposite (inBlock b)) (s .index) outside (keeps w cut));
-            memory = alive {s = starting s idle} (record { serials = ser; bases = refl; indices = refl; pends = at-rest });
+            memory = alive {s = erasing s b idle} (unfold erasing in record { serials = ser; bases = refl; indices = refl; pends = at-rest });
           }
+
+-- ---- the erase before a new head's first page
+
+-- the record of an erase does not touch the coupling
+still-coupled : {v : List View} {s : Held} {h : History} (b : ℕ) → Coupled v (some s) h → Coupled v (some (erasing s b (s .pending))) h
+still-coupled {v} {s} {h} b c =
+    let a = alive-of (c .memory) in
+    record {
+      b = c .b;
+      ch = c .ch;
+      gs = c .gs;
+      idx = c .idx;
+      medium = c .medium;
+      memory = alive {s = erasing s b (s .pending)} (unfold erasing in record { serials = a .serials; bases = a .bases; indices = a .indices; pends = a .pends });
+    }
+
+-- the block is wholly clean, and reads as before also where the erase is cut
+first-good : (v : List View) (s : Held) (h : History) (own : Step) → Coupled v (some s) h → Fits v s → Good v s h own → Good v s h (erasedFirst v s own)
+first-good v s h own c facts G =
+    first-cases (Good v s h) v s own
+    (λ r. unfold Good in
+    record {
+      inside = omega (arith, r .inside, facts .size);
+      after = λ w cut. rw (clean-same v w (newHead v (s .head)) (r .cleans) cut) (still-coupled (newHead v (s .head)) c);
+    })
+    (λ e. G)
 
 -- ---- the step of each operation
 
@@ -201,8 +228,8 @@ aligned b′ idx′ p q S = rw (p, q) S
 pub step-good : (n : ℕ) (v : List View) (s : Held) (h : History) → SmallWords v → length v ≤ 4096 → Coupled v (some s) h → Good v s h (stepOf n v s)
 unfolding stepOf
 step-good n v s h texts few c =
-    checked-cases (Good v s h) Step.refused (need 1 (sizeOk n) ∷ need 7 (fit v s) ∷ need 9 (not (isIdle (s .pending))) ∷ []) (due v s (s .pending)) (refused-good v s h)
-    (λ e. with-state (alive-of (c .memory)) (fits v s (unfold tests in every-at 1 _ e)))
+    checked-cases (Good v s h) Step.refused (need 1 (sizeOk n) ∷ need 7 (fit v s) ∷ need 9 (not (isIdle (s .pending))) ∷ []) (erasedFirst v s (due v s (s .pending))) (refused-good v s h)
+    (λ e. let F = fits v s (unfold tests in every-at 1 _ e) in first-good v s h (due v s (s .pending)) c F (with-state (alive-of (c .memory)) F))
   where
     with-state : Alive v s (h .underWay) (c .b) (c .ch) (c .gs) (c .idx) → Fits v s → Good v s h (due v s (s .pending))
     with-state a F =

@@ -1,6 +1,6 @@
 -- Formatting, begun on any medium of allowed length and stepped, is finished.
 use mathlib.Core.Path.{_≡_, refl, sym, ap, subst, _∙_}
-use mathlib.Core.Bool.{true, false}
+use mathlib.Core.Bool.{Bool, true, false}
 use mathlib.Core.Option.{some}
 use mathlib.Core.List.{List}
 use Prim.Native.Nat.{ℕ, zero, suc, _*_, _/_, _≤_, _<_}
@@ -16,15 +16,16 @@ use Rattle.flash.specs.Medium.{views, seen, programmed, erased}
 use Rattle.flash.proofs.Laws.{seen-views, length-views}
 use Rattle.flash.proofs.Steps.{erase-length}
 use Rattle.blocks.specs.Blocks.{sizeOk}
-use Rattle.state.specs.State.{Held}
+use Rattle.state.specs.State.{Held, nowErased}
 use Rattle.calls.specs.Calls.{Call, formatting, formatOf}
+use Rattle.calls.proofs.Laws.{formatState}
 use Rattle.step.specs.Step.{Step, formatted, stepOf, mediumAfter}
 use Rattle.step.proofs.Formats.{erase-due, base-due}
 use Rattle.valve_log.specs.History.{start}
 use Rattle.valve_log.specs.Reached.{World, world, withState, stepDue, Event, stepped, happen, finishes, meanwhile, Formatting, Reached}
 use Rattle.valve_log.specs.Finished.{stepsOn, Finished, FormattingFinishes}
 use Rattle.valve_log.proofs.Events.{sized}
-use Rattle.valve_log.proofs.Formats.{formatState, one-more, basePage, blank-page, page-there, length-after}
+use Rattle.valve_log.proofs.Formats.{one-more, basePage, blank-page, page-there, length-after}
 
 -- ---- a step of formatting as an event
 
@@ -57,7 +58,8 @@ program-over s = refl
 
 record Erased (n k : ℕ) (w : World) : Type 0 where
   pub medium : List ℕ
-  pub is : w ≡ world medium (some (formatState (length medium / 4096) k))
+  pub records : List Bool
+  pub is : w ≡ world medium (some (formatState (length medium / 4096) k records))
   pub long : length medium ≡ n
   pub bytes : Bytes medium
   pub blanks : (i : ℕ) → i < 4096 * k → getD medium i 0 ≡ 255
@@ -71,10 +73,10 @@ module _ (n : ℕ) (size : sizeOk n ≡ true) where
     size-here : sizeOk (length m) ≡ true
     size-here = rw (E .long) size
 
-    erases : stepOf (length m) (views m) (formatState (length m / 4096) k) ≡ Step.erase k (formatState (length m / 4096) (suc k)) false
+    erases : stepOf (length m) (views m) (formatState (length m / 4096) k (E .records)) ≡ Step.erase k (formatState (length m / 4096) (suc k) (nowErased (E .records) k)) false
     erases =
         let S = sized (length m) size-here in
-        erase-due (length m) (views m) (length m / 4096) size-here (omega (arith, length-views m)) (omega (arith, S .low)) k (omega (arith, E .long))
+        erase-due (length m) (views m) (length m / 4096) (E .records) size-here (omega (arith, length-views m)) (omega (arith, S .low)) k (omega (arith, E .long))
 
     not-refused : (j : ℕ) → stepDue w ≡ Step.refused j → ⊥
     not-refused j e =
@@ -88,10 +90,11 @@ module _ (n : ℕ) (size : sizeOk n ≡ true) where
     unfolding one-more
     erased-more =
         let l : length (erased m k) ≡ length m = erase-length m k (omega (arith, E .long)) in
-        let I = one-more m k size-here (E .bytes) (omega (arith, E .long)) (E .blanks) (omega (arith, E .long)) in
+        let I = one-more m k (E .records) size-here (E .bytes) (omega (arith, E .long)) (E .blanks) (omega (arith, E .long)) in
         record {
           medium = erased m k;
-          is = ap (λ (x : World). happen x Event.step .after) (E .is) ∙ after-is m _ _ erases ∙ erase-after m _ _ k ∙ ap (λ (j : ℕ). world (erased m k) (some (formatState (j / 4096) (suc k)))) (sym l);
+          records = nowErased (E .records) k;
+          is = ap (λ (x : World). happen x Event.step .after) (E .is) ∙ after-is m _ _ erases ∙ erase-after m _ _ k ∙ ap (λ (j : ℕ). world (erased m k) (some (formatState (j / 4096) (suc k) (nowErased (E .records) k)))) (sym l);
           long = l ∙ E .long;
           bytes = I .bytes;
           blanks = I .blanks;
@@ -117,16 +120,16 @@ module _ (n : ℕ) (size : sizeOk n ≡ true) where
     first-clean : seen (views (E .medium)) 0 ≡ clean
     first-clean =
         seen-views (E .medium) 0
-        ∙ ap viewOf (blank-page (E .medium) blocks size-last (E .bytes) few blanks-last few 0 (page-there (E .medium) blocks size-last (E .bytes) few blanks-last few))
+        ∙ ap viewOf (blank-page (E .medium) blocks (E .records) size-last (E .bytes) few blanks-last few 0 (page-there (E .medium) blocks (E .records) size-last (E .bytes) few blanks-last few))
         ∙ blank-clean
 
-    writes : stepOf (length (E .medium)) (views (E .medium)) (formatState blocks blocks) ≡ Step.program 0 basePage (formatted blocks) true
+    writes : stepOf (length (E .medium)) (views (E .medium)) (formatState blocks blocks (E .records)) ≡ Step.program 0 basePage (formatted (formatState blocks blocks (E .records))) true
     writes =
         let S = sized (length (E .medium)) size-last in
-        base-due (length (E .medium)) (views (E .medium)) blocks size-last (omega (arith, length-views (E .medium))) (omega (arith, S .low)) first-clean
+        base-due (length (E .medium)) (views (E .medium)) blocks (E .records) size-last (omega (arith, length-views (E .medium))) (omega (arith, S .low)) first-clean
 
-    here : w ≡ world (E .medium) (some (formatState blocks blocks))
-    here = E .is ∙ ap (λ (j : ℕ). world (E .medium) (some (formatState blocks j))) (sym all-there)
+    here : w ≡ world (E .medium) (some (formatState blocks blocks (E .records)))
+    here = E .is ∙ ap (λ (j : ℕ). world (E .medium) (some (formatState blocks j (E .records)))) (sym all-there)
 
     last-not-refused : (j : ℕ) → stepDue w ≡ Step.refused j → ⊥
     last-not-refused j e =
@@ -134,13 +137,13 @@ module _ (n : ℕ) (size : sizeOk n ≡ true) where
         let z : _≡_ {A = ℕ} 0 1 = cc in omega arith
 
     is-over : finishes (stepDue w) ≡ true
-    is-over = ap (λ (x : World). finishes (stepDue x)) here ∙ ap finishes (due-is (E .medium) _ _ writes) ∙ program-over (formatted blocks)
+    is-over = ap (λ (x : World). finishes (stepDue x)) here ∙ ap finishes (due-is (E .medium) _ _ writes) ∙ program-over (formatted (formatState blocks blocks (E .records)))
 
     length-last : length (happen w Event.step .after .medium) ≡ n
     length-last =
         ap (λ (x : World). length (happen x Event.step .after .medium)) here
-        ∙ ap (λ (x : World). length (x .medium)) (after-is (E .medium) _ _ writes ∙ program-after (E .medium) _ (formatted blocks))
-        ∙ length-after (E .medium) blocks size-last (E .bytes) few blanks-last few ∙ E .long
+        ∙ ap (λ (x : World). length (x .medium)) (after-is (E .medium) _ _ writes ∙ program-after (E .medium) _ (formatted (formatState blocks blocks (E .records))))
+        ∙ length-after (E .medium) blocks (E .records) size-last (E .bytes) few blanks-last few ∙ E .long
 
 -- ---- from where formatting begins
 
@@ -153,7 +156,7 @@ begun-there n size = rw size
 
 module _ (m : List ℕ) (b : Bytes m) (size : sizeOk (length m) ≡ true) where
   at-first : Erased (length m) 0 (first m)
-  at-first = record { medium = m; is = unfold formatting in refl; long = refl; bytes = b; blanks = λ i h. absurd (omega arith) }
+  at-first = record { medium = m; records = formatting (length m / 4096) .erased; is = unfold formatting in refl; long = refl; bytes = b; blanks = λ i h. absurd (omega arith) }
 
   at : (k : ℕ) → k ≤ length m / 4096 → Erased (length m) k (stepsOn k (first m))
   unfolding stepsOn

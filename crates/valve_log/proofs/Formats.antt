@@ -2,7 +2,7 @@
 -- history coupled.
 use mathlib.Core.Path.{_≡_, refl, sym, ap, subst, _∙_}
 use mathlib.Core.Logic.{inl}
-use mathlib.Core.Bool.{true, false, not}
+use mathlib.Core.Bool.{Bool, true, false, not}
 use mathlib.Core.Option.{Option, some}
 use mathlib.Core.List.{List, [], _∷_}
 use Prim.Native.Nat.{ℕ, zero, suc, _+_, _-_, _*_, _/_, _≤_, _<_}
@@ -27,11 +27,12 @@ use Rattle.flash.proofs.Steps.{AllGuarded, page-known, views-same, program-leng
 use Rattle.blocks.specs.Blocks.{sizeOk}
 use Rattle.nodes.specs.Nodes.{sound, words}
 use Rattle.index.specs.Index.{risingFrom, rising}
-use Rattle.state.specs.State.{append, commit, collect, format, Held, isIdle}
+use Rattle.state.specs.State.{idle, append, commit, collect, format, Held, held, noneErased, nowErased, isIdle}
 use Rattle.recovery.specs.Recovery.{placed, wholes, allLawful, distinct, insert, sort, goesOn, startsGroup, baseOf, reaches, from, consecutive, group, joined, begun, enter, walk, groupsOf, logOf, pagesOf, enterAll, enterPage, enterPages, Recovery}
 use Rattle.recovery.specs.Recovery
-use Rattle.calls.specs.Calls.{Call, starting, zip, appendOf, commitOf, collectOf, formatting, formatOf}
-use Rattle.step.specs.Step.{Step, formatted, programming, formatStep, due, stepOf, mediumAfter}
+use Rattle.calls.specs.Calls.{Call, zip, appendOf, commitOf, collectOf, formatting, formatOf}
+use Rattle.calls.proofs.Laws.{formatState}
+use Rattle.step.specs.Step.{Step, formatted, erasing, programming, formatStep, due, programsDue, needsErase, erasedFirst, stepOf, mediumAfter}
 use Rattle.valve_log.specs.History.{start, Told, beganAppend, beganCommit, beganCollect}
 use Rattle.valve_log.specs.Reached.{World, world, withState, stepDue, Event, still, called, stepped, recovered, happen, accepted, finishes, meanwhile, Formatting}
 use Rattle.valve_log.specs.Reached
@@ -49,7 +50,8 @@ pub record InFormat (m : List ℕ) (s : Option Held) : Type 0 where
   pub bytes : Bytes m
   pub done : ℕ
   pub few : done ≤ length m / 4096
-  pub state : s ≡ some (starting (formatting (length m / 4096)) (format done))
+  pub erased : List Bool
+  pub state : s ≡ some (formatState (length m / 4096) done erased)
   pub blanks : (i : ℕ) → i < 4096 * done → getD m i 0 ≡ 255
 
 begun-is : (n : ℕ) (s : Held) → formatOf n ≡ Call.begun s → (sizeOk n ≡ true) × (s ≡ formatting (n / 4096))
@@ -71,19 +73,16 @@ busy w t a b c cs s′ e =
 
 -- ---- one event more
 
-abbrev pub formatState : ℕ → ℕ → Held
-formatState blocks k = starting (formatting blocks) (format k)
-
-module _ (m : List ℕ) (k : ℕ) (size : sizeOk (length m) ≡ true) (bytes : Bytes m) (few : k ≤ length m / 4096) (blanks : (i : ℕ) → i < 4096 * k → getD m i 0 ≡ 255) where
+module _ (m : List ℕ) (k : ℕ) (e : List Bool) (size : sizeOk (length m) ≡ true) (bytes : Bytes m) (few : k ≤ length m / 4096) (blanks : (i : ℕ) → i < 4096 * k → getD m i 0 ≡ 255) where
   abbrev here : World
-  here = world m (some (formatState (length m / 4096) k))
+  here = world m (some (formatState (length m / 4096) k e))
 
-  same : InFormat m (some (formatState (length m / 4096) k))
-  same = record { size = size; bytes = bytes; done = k; few = few; state = refl; blanks = blanks }
+  same : InFormat m (some (formatState (length m / 4096) k e))
+  same = record { size = size; bytes = bytes; done = k; few = few; erased = e; state = refl; blanks = blanks }
 
   -- the step erases the next block, or programs the base and finishes
-  unfoldable pub one-more : k < length m / 4096 → InFormat (erased m k) (some (starting (formatState (length m / 4096) k) (format (suc k))))
-  unfolding erased
+  unfoldable pub one-more : k < length m / 4096 → InFormat (erased m k) (some (erasing (formatState (length m / 4096) k e) k (format (suc k))))
+  unfolding erased erasing
   one-more h =
       let there : 4096 * k + 4096 ≤ length m = omega arith in
       let l = erase-length m k there in
@@ -92,6 +91,7 @@ module _ (m : List ℕ) (k : ℕ) (size : sizeOk (length m) ≡ true) (bytes : B
         bytes = bytes-put m (4096 * k) (blank 4096) bytes (bytes-blank 4096);
         done = suc k;
         few = omega arith;
+        erased = nowErased e k;
         state = rw l;
         blanks = λ i x. go i x there (decLt i (4096 * k));
       }
@@ -107,11 +107,11 @@ module _ (m : List ℕ) (k : ℕ) (size : sizeOk (length m) ≡ true) (bytes : B
   unfolding Keeps stepped
   refused-keeps n f = same
 
-  step-keeps : Keeps (stepOf (length m) (views m) (formatState (length m / 4096) k))
-  unfolding stepOf due formatStep formatting
+  step-keeps : Keeps (stepOf (length m) (views m) (formatState (length m / 4096) k e))
+  unfolding stepOf due formatStep formatting programsDue needsErase every erasedFirst
   step-keeps =
       checked-cases Keeps Step.refused _ _ refused-keeps
-      (λ e. by-cases (ltb k (length m / 4096))
+      (λ c. by-cases (ltb k (length m / 4096))
       (λ h. rw h (unfold Keeps stepped mediumAfter in (λ f. one-more (ltb-true k (length m / 4096) h))))
       (λ h. rw h (unfold programming in checked-cases Keeps Step.refused _ _ refused-keeps (λ g. unfold Keeps finishes in (λ f. true-false f refl)))))
 
@@ -135,12 +135,12 @@ abbrev Stays : List ℕ → Option Held → Type 0
 Stays m s = (e : Event (world m s)) → meanwhile (world m s) e ≡ true → InFormat (happen (world m s) e .after .medium) (happen (world m s) e .after .state)
 
 keeps : (m : List ℕ) (s : Option Held) → InFormat m s → Stays m s
-keeps m s I = subst (Stays m) (sym (I .state)) (event-keeps m (I .done) (I .size) (I .bytes) (I .few) (I .blanks))
+keeps m s I = subst (Stays m) (sym (I .state)) (event-keeps m (I .done) (I .erased) (I .size) (I .bytes) (I .few) (I .blanks))
 
 pub in-format : (w : World) → Formatting w → InFormat (w .medium) (w .state)
 in-format w (Formatting.begun m s b e) =
     let q = begun-is (length m) s e in
-    record { size = q .0; bytes = b; done = 0; few = omega arith; state = rw (q .1) (unfold formatting in refl); blanks = λ i h. absurd (omega arith) }
+    record { size = q .0; bytes = b; done = 0; few = omega arith; erased = noneErased (length m / 4096); state = rw (q .1) (unfold formatting in refl); blanks = λ i h. absurd (omega arith) }
 in-format w (Formatting.next v e F k) = keeps (v .medium) (v .state) (in-format v F) e k
 
 -- ---- formatting finished
@@ -175,9 +175,12 @@ start-sound k =
       tidy = record { rise = unfold rising risingFrom in refl; valve = unfold valves all in refl; count = omega arith };
     }
 
-pub start-coupled : (blocks k : ℕ) → Coupled (whole basePage ∷ replicate k clean) (some (formatted blocks)) start
-unfolding formatted
-start-coupled blocks k =
+-- the state that formatting leaves
+abbrev pub started : ℕ → List Bool → Held
+started blocks e = held (record { blocks = blocks; block = 0; next = 1; serial = 2; base = 1 }) [] idle e
+
+pub start-coupled : (blocks k : ℕ) (e : List Bool) → Coupled (whole basePage ∷ replicate k clean) (some (started blocks e)) start
+start-coupled blocks k e =
     record {
       b = 1;
       ch = placed 0 basePage ∷ [];
@@ -192,12 +195,13 @@ pub record Begins (w : World) : Type 0 where
   pub upheld : Upheld w start
   pub pages : ℕ
   pub sees : views (w .medium) ≡ whole basePage ∷ replicate pages clean
-  pub holds : w .state ≡ some (formatted (length (w .medium) / 4096))
+  pub erased : List Bool
+  pub holds : w .state ≡ some (started (length (w .medium) / 4096) erased)
 
 -- the step that finishes: all blocks are erased, and the base goes to page 0
-module _ (m : List ℕ) (k : ℕ) (size : sizeOk (length m) ≡ true) (bytes : Bytes m) (few : k ≤ length m / 4096) (blanks : (i : ℕ) → i < 4096 * k → getD m i 0 ≡ 255) where
+module _ (m : List ℕ) (k : ℕ) (e : List Bool) (size : sizeOk (length m) ≡ true) (bytes : Bytes m) (few : k ≤ length m / 4096) (blanks : (i : ℕ) → i < 4096 * k → getD m i 0 ≡ 255) where
   Ends : Step → Type 0
-  Ends st = finishes st ≡ true → Begins (stepped (here m k size bytes few blanks) st .after)
+  Ends st = finishes st ≡ true → Begins (stepped (here m k e size bytes few blanks) st .after)
 
   refused-ends : (n : ℕ) → Ends (Step.refused n)
   unfolding Ends finishes
@@ -243,25 +247,26 @@ module _ (m : List ℕ) (k : ℕ) (size : sizeOk (length m) ≡ true) (bytes : B
         let S = sized (length m) size in
         program-views m 0 basePage page-there base-narrow ∙ ap (λ (v : List View). set v 0 (whole basePage)) views-clean ∙ some-views (length m / 256) (omega (arith, S .low))
 
-    finished : Begins (world (programmed m 0 basePage) (some (formatted (length m / 4096))))
+    finished : Begins (world (programmed m 0 basePage) (some (started (length m / 4096) e)))
     finished =
         record {
           upheld =
               record {
                 size = rw length-after size;
                 guarded = program-guarded m 0 basePage page-there (omega arith) guarded;
-                coupled = rw views-after (start-coupled (length m / 4096) (length m / 256 - 1));
+                coupled = rw views-after (start-coupled (length m / 4096) (length m / 256 - 1) e);
               };
           pages = length m / 256 - 1;
           sees = views-after;
+          erased = e;
           holds = rw length-after;
         }
 
-  step-ends : Ends (stepOf (length m) (views m) (formatState (length m / 4096) k))
-  unfolding stepOf due formatStep formatting
+  step-ends : Ends (stepOf (length m) (views m) (formatState (length m / 4096) k e))
+  unfolding stepOf due formatStep formatting formatted programsDue needsErase every erasedFirst
   step-ends =
       checked-cases Ends Step.refused _ _ refused-ends
-      (λ e. by-cases (ltb k (length m / 4096))
+      (λ c. by-cases (ltb k (length m / 4096))
       (λ h. rw h (unfold Ends finishes in (λ f. true-false f refl)))
       (λ h. rw h (unfold programming in checked-cases Ends Step.refused _ _ refused-ends (λ g. unfold Ends stepped mediumAfter in (λ f. finished (ltb-false k (length m / 4096) h))))))
 
@@ -269,4 +274,4 @@ abbrev Starts : List ℕ → Option Held → Type 0
 Starts m s = finishes (stepDue (world m s)) ≡ true → Begins (happen (world m s) Event.step .after)
 
 pub starts : (m : List ℕ) (s : Option Held) → InFormat m s → Starts m s
-starts m s I = subst (Starts m) (sym (I .state)) (unfold happen stepDue withState Ends in step-ends m (I .done) (I .size) (I .bytes) (I .few) (I .blanks))
+starts m s I = subst (Starts m) (sym (I .state)) (unfold happen stepDue withState Ends in step-ends m (I .done) (I .erased) (I .size) (I .bytes) (I .few) (I .blanks))

@@ -19,3 +19,5 @@ pub mod Steady
 pub mod Stateless
 pub mod Quiet
 pub mod Finished
+pub mod Weak
+pub mod Once

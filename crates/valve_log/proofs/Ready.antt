@@ -22,16 +22,18 @@ use Rattle.flash.proofs.Steps.{seen-set-other}
 use Rattle.flash.proofs.Cuts.{CutViews}
 use Rattle.index.specs.Index.{rising, assignAll}
 use Rattle.blocks.specs.declared.Head.{Head}
-use Rattle.blocks.specs.Blocks.{sizeOk, available, reachesBase, oldBlock, headWithRoom, pageDue, collectible}
+use Rattle.blocks.specs.Blocks.{sizeOk, available, reachesBase, oldBlock, headWithRoom, newHead, pageDue, collectible}
 use Rattle.nodes.specs.Nodes.{nodeIn, wordFor, wordAt, inBlock, sound, words, live}
 use Rattle.state.specs.State.{Pending, idle, append, commit, collect, format, unnamed, Held, held, headFit, placeFit, indexFit, groupOk, basePages, doneFit, pendingFit, fit, isIdle}
-use Rattle.calls.specs.Calls.{starting, serialsFor}
-use Rattle.step.specs.Step.{Step, isLast, groupPage, moved, addressed, appended, committed, collected, programming, appendStep, commitStep, moveStep, collectStep, due, stepOf}
+use Rattle.calls.specs.Calls.{serialsFor}
+use Rattle.step.specs.Step.{Step, isLast, groupPage, moved, addressed, appended, committed, collected, erasing, erasedFirst, programming, appendStep, commitStep, moveStep, collectStep, due, stepOf}
+use Rattle.step.proofs.Laws.{first-cases}
 use Rattle.valve_log.specs.History.{History}
 use Rattle.valve_log.specs.Steady.{expected}
 use Rattle.index.proofs.Members.{In, in-take, in-all, all-in}
 use Rattle.nodes.proofs.Alive.{in-live}
 use Rattle.valve_log.proofs.Index.{valves}
+use Rattle.valve_log.proofs.Views.{clean-same}
 use Rattle.valve_log.proofs.Moves.{unique-live, live-in-block, moves-out}
 use Rattle.valve_log.proofs.Replay.{addressed-one}
 use Rattle.valve_log.proofs.Coupling.{Alive, alive-of, Coupled}
@@ -195,11 +197,11 @@ moved-serial : (h : Head) (p base : ℕ) → moved h p base .serial ≡ suc (h .
 unfolding moved
 moved-serial h p base = refl
 
-collected-is : (s : Held) (b : ℕ) (moves : List Place) (p : ℕ) → collected s b moves p ≡ held (moved (s .head) p (s .head .base)) (assignAll (s .index) (addressed moves (p ∷ []))) (collect b)
+collected-is : (s : Held) (b : ℕ) (moves : List Place) (p : ℕ) → collected s b moves p ≡ held (moved (s .head) p (s .head .base)) (assignAll (s .index) (addressed moves (p ∷ []))) (collect b) (s .erased)
 unfolding collected
 collected-is s b moves p = refl
 
-appended-more : (s : Held) (es : List Entry) (ps : List ℕ) (p : ℕ) → isLast (length ps) (length es) ≡ false → appended s es ps p ≡ held (moved (s .head) p (s .head .base)) (s .index) (append es (ps ++ (p ∷ [])))
+appended-more : (s : Held) (es : List Entry) (ps : List ℕ) (p : ℕ) → isLast (length ps) (length es) ≡ false → appended s es ps p ≡ held (moved (s .head) p (s .head .base)) (s .index) (append es (ps ++ (p ∷ []))) (s .erased)
 unfolding appended
 appended-more s es ps p e = rw e
 
@@ -350,8 +352,9 @@ module _ (v : List View) (s : Held) (h : History) (c : Coupled v (some s) h) (r 
           })
 
   -- an erase leaves the head's clean pages clean
-  erase-ready : (b : ℕ) (w : List View) → CutViews v (16 * b) 16 v w → Ready w (starting s idle)
+  erase-ready : (b : ℕ) (w : List View) → CutViews v (16 * b) 16 v w → Ready w (erasing s b idle)
   erase-ready b w cut =
+      unfold erasing in
       record {
         size = cut .size ∙ r .size;
         heads = record { inside = r .heads .inside; low = r .heads .low; high = r .heads .high; tail = λ i lo hi. still (16 * s .head .block + i) (r .heads .tail i lo hi) };
@@ -372,6 +375,13 @@ module _ (v : List View) (s : Held) (h : History) (c : Coupled v (some s) h) (r 
           go (no x) (no y) = rw (cut .outside q (inr (omega arith))) e
           go (no x) (yes y) = turned-clean (seen v q) (seen w q) e (cut .inside q (omega arith) y)
 
+  -- one of a new head, before its first page, leaves all as it was
+  first-ready : (own : Step) → StepReady v own → StepReady v (erasedFirst v s own)
+  first-ready own R =
+      first-cases (StepReady v) v s own
+      (λ f. unfold StepReady in (λ w cut. rw (clean-same v w (newHead v (s .head)) (f .cleans) cut) (unfold erasing in record { size = r .size; heads = r .heads; pend = r .pend; left = r .left })))
+      (λ e. R)
+
   collect-ready : (b : ℕ) → s .pending ≡ collect b → (l : List Place) → live (s .index) b ≡ l → StepReady v (collectStep v s b l)
   unfolding collectStep
   collect-ready b e [] q = unfold StepReady in erase-ready b
@@ -388,4 +398,4 @@ module _ (v : List View) (s : Held) (h : History) (c : Coupled v (some s) h) (r 
 
   pub step-ready : (n : ℕ) → sizeOk n ≡ true → StepReady v (stepOf n v s)
   unfolding stepOf checked
-  step-ready n size = by-cases (isIdle (s .pending)) (λ i. rw (size, fit-ready v s h c r, i) (unfold StepReady in expected-9)) (λ i. rw (size, fit-ready v s h c r, i) (due-ready (s .pending) refl))
+  step-ready n size = by-cases (isIdle (s .pending)) (λ i. rw (size, fit-ready v s h c r, i) (unfold StepReady in expected-9)) (λ i. rw (size, fit-ready v s h c r, i) (first-ready (due v s (s .pending)) (due-ready (s .pending) refl)))

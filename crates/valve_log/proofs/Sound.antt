@@ -14,7 +14,7 @@ use Rattle.page.specs.Pages.{Page, View, whole, isClean}
 use Rattle.page.specs.Rules.{lawful}
 use Rattle.flash.specs.Medium.{seen}
 use Rattle.nodes.specs.Nodes.{sound, words}
-use Rattle.state.specs.State.{Held, held, idle}
+use Rattle.state.specs.State.{Held, held, noneErased, idle}
 use Rattle.blocks.specs.Blocks.{sizeOk}
 use Rattle.recovery.specs.Recovery.{Placed, placed, serialOf, wholes, allLawful, distinct, sort, lastOf, noPage, baseOf, reaches, from, consecutive, Group, between, walk, groupsOf, logOf, pagesOf, enterPages, refused, recovered, base, chain, groups, replayed, recoveredState, recoverNeeds, recover}
 use Rattle.recovery.proofs.Pages.{base-append}
@@ -71,7 +71,7 @@ module _ {v : List View} {log : List (List Entry)} {settings : List Setting} {b 
 
   -- the state that recovery gives
   unfoldable pub outcome : Held
-  outcome = held (record { blocks = length v / 16; block = lastOf noPage (sort (wholes 0 v)) .at / 16; next = 16; serial = b + length ch; base = b }) idx idle
+  outcome = held (record { blocks = length v / 16; block = lastOf noPage (sort (wholes 0 v)) .at / 16; next = 16; serial = b + length ch; base = b }) idx idle (noneErased (length v / 16))
 
   outcome-is : recoveredState v ≡ outcome
   unfolding recoveredState outcome valueOr

@@ -25,7 +25,7 @@ use Rattle.recovery.specs.Recovery.{Placed, wholes, sort, lastOf, noPage, Recov
 use Rattle.recovery.specs.Recovery
 use Rattle.readings.specs.Readings.{Opening, placeOf, openingNeeds, openingOf, Pick, pickedBlock, pickOf, Survey, surveyOf, Supply, availableOf}
 use Rattle.calls.specs.Calls.{Call, starting, zip, listsOk, roomFor, appendNeeds, appendOf, commitNeeds, commitOf, collectNeeds, collectOf}
-use Rattle.step.specs.Step.{Step, formatted, stepOf, mediumAfter}
+use Rattle.step.specs.Step.{Step, stepOf, mediumAfter}
 use Rattle.valve_log.specs.History.{History, Told, beganAppend, beganCommit, beganCollect}
 use Rattle.valve_log.specs.Reached.{World, world, withState, stepDue, Event, called, stepped, cutShort, recovered, happen, Reached}
 use Rattle.valve_log.specs.Steady.{expected, Answers, Steady}
@@ -36,7 +36,7 @@ use Rattle.valve_log.proofs.Sound.{outcome, accepts}
 use Rattle.valve_log.proofs.Coupling.{alive-of, Coupled}
 use Rattle.valve_log.proofs.Due.{Good}
 use Rattle.valve_log.proofs.Events.{Upheld, Sized, sized, there, erase-cut, due-good}
-use Rattle.valve_log.proofs.Formats.{Begins, basePage, in-format, starts}
+use Rattle.valve_log.proofs.Formats.{Begins, basePage, started, in-format, starts}
 use Rattle.valve_log.proofs.Point3.{reached-upheld}
 use Rattle.valve_log.proofs.Ready.{Left, Ready, fit-ready, sound-part, fit-append, fit-commit, left-append, left-commit, left-collect, StepReady, step-ready}
 
@@ -145,12 +145,11 @@ starts-ready w B = rw (B .holds) (unfold StateReady in ready)
     many : (i : ℕ) → i < 16 → i < suc (B .pages)
     many i b = omega (arith, n, length-views (w .medium), S .low)
 
-    ready : Ready (views (w .medium)) (formatted (length (w .medium) / 4096))
+    ready : Ready (views (w .medium)) (started (length (w .medium) / 4096) (B .erased))
     ready =
         let l = length-views (w .medium) in
         let e = S .even in
         let o = S .low in
-        unfold formatted in
         record {
           size = omega arith;
           heads = record { inside = omega arith; low = omega arith; high = omega arith; tail = λ i a b. let z : 16 * 0 + i ≡ i = omega arith in rw (z, B .sees) (tail-clean i a (many i b)) };

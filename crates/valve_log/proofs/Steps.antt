@@ -259,7 +259,7 @@ module _ (v : List View) (s : Held) (h : History) {ch : List Placed} {gs : List 
           idx = s .index;
           medium = longer p pg cleans ap-lawful (page-serial 1 es (length ps) serial) (ap groupsOf w ∙ (unfold joined groupsOf in refl)) (unfold groupPage in refl);
           memory =
-              alive {s = held (moved (s .head) p (s .head .base)) (s .index) (append es (ps ++ (p ∷ [])))}
+              alive {s = held (moved (s .head) p (s .head .base)) (s .index) (append es (ps ++ (p ∷ []))) (s .erased)}
               (record {
                 serials = omega (arith, length-append ch (placed p pg ∷ []));
                 bases = refl;
@@ -286,7 +286,7 @@ module _ (v : List View) (s : Held) (h : History) {ch : List Placed} {gs : List 
               complete p pg (group 1 written) (h .log ++ (es ∷ [])) (assignAll (h .settings) es) cleans ap-lawful (page-serial 1 es (length ps) serial) (unfold groupPage in refl) refl (w ∙ (unfold joined in refl))
               (laid-kind 1 es ps f p serial firsts) within-is ap-present log-is (ap (assignAll (h .settings)) entries-are);
           memory =
-              alive {s = held (moved (s .head) p (s .head .base)) (assignAll (s .index) (addressed es (ps ++ (p ∷ [])))) idle}
+              alive {s = held (moved (s .head) p (s .head .base)) (assignAll (s .index) (addressed es (ps ++ (p ∷ [])))) idle (s .erased)}
               (record {
                 serials = omega (arith, length-append ch (placed p pg ∷ []));
                 bases = refl;
@@ -352,7 +352,7 @@ module _ (v : List View) (s : Held) (h : History) {ch : List Placed} {gs : List 
           idx = s .index;
           medium = longer p bp cleans cm-lawful (page-serial 2 (s .index) (length ps) now) (ap groupsOf w ∙ (unfold joined groupsOf in refl)) (rw (ends-page 2 (s .index) (length ps) now, e) (and-false (eqb (bp .kind) 2)));
           memory =
-              alive {s = held (moved (s .head) p (s .head .base)) (s .index) (commit (suc (length ps)))}
+              alive {s = held (moved (s .head) p (s .head .base)) (s .index) (commit (suc (length ps))) (s .erased)}
               (record {
                 serials = omega (arith, length-append ch (placed p bp ∷ []));
                 bases = refl;
@@ -421,7 +421,7 @@ module _ (v : List View) (s : Held) (h : History) {ch : List Placed} {gs : List 
           gs = group 2 stored ∷ [];
           idx = s .index;
           medium = cm-sound e;
-          memory = alive {s = held (moved (s .head) p (s .head .serial - length ps)) (s .index) idle} (record { serials = omega arith; bases = omega arith; indices = refl; pends = at-rest });
+          memory = alive {s = held (moved (s .head) p (s .head .serial - length ps)) (s .index) idle (s .erased)} (record { serials = omega arith; bases = omega arith; indices = refl; pends = at-rest });
         })
 
   -- ---- a page of a collection
@@ -478,6 +478,6 @@ module _ (v : List View) (s : Held) (h : History) {ch : List Placed} {gs : List 
               complete p mp (group 3 (placed p mp ∷ [])) (h .log) (h .settings) cleans cl-lawful refl refl refl cl-walk (unfold all in refl) cl-within cl-present
               (unfold logOf in append-nil (h .log)) (ap (assignAll (h .settings)) cl-entries ∙ move-same v (h .settings) moves cl-rising cl-mem cl-valves);
           memory =
-              alive {s = held (moved (s .head) p (s .head .base)) (assignAll (s .index) (addressed moves (p ∷ []))) (collect blk)}
+              alive {s = held (moved (s .head) p (s .head .base)) (assignAll (s .index) (addressed moves (p ∷ []))) (collect blk) (s .erased)}
               (record { serials = omega (arith, length-append ch (placed p mp ∷ [])); bases = refl; indices = ap (assignAll (s .index)) cl-nodes; pends = rw under in-collect });
         }

@@ -1,20 +1,20 @@
 -- What a device step, and a cut inside one, does to the whole pages of a medium and to the words that the index finds there.
-use mathlib.Core.Path.{_≡_, refl}
+use mathlib.Core.Path.{_≡_, refl, sym}
 use mathlib.Core.Logic.{_⊎_, inl, inr}
 use mathlib.Core.Bool.{true, false}
 use mathlib.Core.List.{List, [], _∷_}
-use Prim.Native.Nat.{ℕ, zero, suc, _+_, _/_, _≤_, _<_}
+use Prim.Native.Nat.{ℕ, zero, suc, _+_, _-_, _*_, _/_, _≤_, _<_}
 use native.Mathlib.Omega.{arith}
 use native.Mathlib.Decide.{decLt, ℕ-discrete}
 use lib.ListN.{length, set}
 use borrow.Author.Tests.{leb-false}
 use Rattle.lists.specs.declared.Cell.{Cell}
 use Rattle.lists.specs.Lists.{isSome}
-use Rattle.lists.proofs.Laws.{true-false}
+use Rattle.lists.proofs.Laws.{true-false, below-at}
 use Rattle.page.specs.Pages.{Page, View, clean, spoilt, whole, isClean, isWhole}
 use Rattle.page.proofs.Berger.{Turned, kept, torn, blanked}
-use Rattle.flash.specs.Medium.{seen}
-use Rattle.flash.proofs.Steps.{seen-set-other}
+use Rattle.flash.specs.Medium.{seen, whollyClean}
+use Rattle.flash.proofs.Steps.{seen-set-other, views-same}
 use Rattle.flash.proofs.Cuts.{CutViews}
 use Rattle.blocks.specs.Blocks.{reachesBase}
 use Rattle.nodes.specs.Nodes.{nodeIn, wordFor, wordAt}
@@ -79,6 +79,25 @@ cut-lost b v w a n c r q = go (decLt q a) (decLt q (a + n))
     go (yes h) d = unfold Lost in inl (c .outside q (inl h))
     go (no h) (no k) = unfold Lost in inl (c .outside q (inr (omega arith)))
     go (no h) (yes k) = turned-lost b (seen v q) (seen w q) (r q (omega arith) k) (c .inside q (omega arith) k)
+
+-- an erase of a wholly clean block, cut or not, leaves every page as it was
+pub clean-same : (v w : List View) (b : ℕ) → whollyClean v b ≡ true → CutViews v (16 * b) 16 v w → w ≡ v
+clean-same v w b e c = views-same w v (c .size) (λ q h. go q (decLt q (16 * b)) (decLt q (16 * b + 16)))
+  where
+    turned : (x y : View) → isClean x ≡ true → Turned x y → y ≡ x
+    turned x y t (kept z) = refl
+    turned x y t (torn pg) = true-false t (unfold isClean in refl)
+    turned x y t (blanked z) = sym (clean-is z t)
+
+    cleans : (q : ℕ) → 16 * b ≤ q → q < 16 * b + 16 → isClean (seen v q) ≡ true
+    cleans q lo hi =
+        let i : 16 * b + (q - 16 * b) ≡ q = omega arith in
+        rw i at (below-at 16 (λ i. isClean (seen v (16 * b + i))) (unfold whollyClean in e) (q - 16 * b) (omega arith))
+
+    go : (q : ℕ) → Dec (q < 16 * b) → Dec (q < 16 * b + 16) → seen w q ≡ seen v q
+    go q (yes h) d = c .outside q (inl h)
+    go q (no h) (no k) = c .outside q (inr (omega arith))
+    go q (no h) (yes k) = turned (seen v q) (seen w q) (cleans q (omega arith) k) (c .inside q (omega arith) k)
 
 -- ---- the word at an address
 

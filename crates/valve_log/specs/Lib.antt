@@ -3,3 +3,4 @@ pub mod Reached
 pub mod Steady
 pub mod Quiet
 pub mod Finished
+pub mod Weak

@@ -1,9 +1,9 @@
 //! Shorthands of the tests.
 #![allow(dead_code)]
 
-use journal_tests::random::{Action, Outcome};
+use journal_tests::random::{Action, Life, Outcome};
 use journal_tests::reader::*;
-use journal_tests::writer::{self, State, Step, Touched};
+use journal_tests::writer::{self, Pending, State, Step, Touched};
 
 pub fn refused<T>(number: u8) -> Result<T, Refused> {
     Err(Refused(number))
@@ -27,6 +27,11 @@ pub fn finish(medium: &mut [u8], state: &mut State) -> Vec<Step> {
             return steps;
         }
     }
+}
+
+/// What each step touched.
+pub fn touched(steps: &[Step]) -> Vec<Touched> {
+    steps.iter().map(|step| step.touched).collect()
 }
 
 pub fn formatted(blocks: usize) -> (Vec<u8>, State) {
@@ -85,17 +90,86 @@ pub fn happening(action: &Action, outcome: Outcome) -> String {
     match outcome {
         Outcome::Refused(number) => format!("{action} refused {number}"),
         Outcome::Accepted => action.to_string(),
-        Outcome::Stepped(step) => format!("{action} {}", touched(Some(step.touched))),
+        Outcome::Stepped(step) => format!("{action} {}", kind_of(Some(step.touched))),
         Outcome::Cut { struck, complete } => {
-            format!("{action} {}{}", touched(struck), if complete { " complete" } else { "" })
+            format!("{action} {}{}", kind_of(struck), if complete { " complete" } else { "" })
         }
     }
 }
 
-fn touched(what: Option<Touched>) -> &'static str {
+fn kind_of(what: Option<Touched>) -> &'static str {
     match what {
         Some(Touched::Page(_)) => "page",
         Some(Touched::Block(_)) => "block",
         None => "nothing",
+    }
+}
+
+/// What an action was given: the state, and which blocks were weak.
+pub struct Given {
+    state: Option<State>,
+    weak: Vec<bool>,
+}
+
+impl Given {
+    /// What the next action in a life is given.
+    pub fn to(life: &Life) -> Given {
+        Given { state: life.state.clone(), weak: life.weak.clone() }
+    }
+
+    /// Whether an erase of this block comes before its first page: it is
+    /// neither formatting's nor a collection's last.
+    fn before_a_page(&self, touched: Touched) -> Option<usize> {
+        let Touched::Block(block) = touched else { return None };
+        match self.state.as_ref()?.pending.as_ref()? {
+            Pending::Format { .. } => None,
+            Pending::Collect { block: collected } if *collected == block => None,
+            _ => Some(block),
+        }
+    }
+}
+
+/// The name of what is pending.
+pub fn pending_name(state: Option<&State>) -> &'static str {
+    match state.and_then(|state| state.pending.as_ref()) {
+        None => "nothing",
+        Some(Pending::Append { .. }) => "append",
+        Some(Pending::Commit { .. }) => "commit",
+        Some(Pending::Collect { .. }) => "collection",
+        Some(Pending::Format { .. }) => "formatting",
+    }
+}
+
+/// More of what happened: how large what was begun is, what was finished or
+/// cut, and which erases came before a page.
+pub fn circumstances(given: &Given, action: &Action, outcome: Outcome) -> Option<String> {
+    let pending = pending_name(given.state.as_ref());
+    match outcome {
+        Outcome::Accepted => begun(given.state.as_ref()?, action).map(String::from),
+        Outcome::Stepped(step) if step.finished => Some(format!("{pending} finished")),
+        Outcome::Stepped(step) => {
+            let weak = given.weak[given.before_a_page(step.touched)?];
+            Some(format!("erase before a page{}", if weak { ", the block being weak" } else { "" }))
+        }
+        Outcome::Cut { struck: Some(struck), .. } => match given.before_a_page(struck) {
+            Some(_) => Some("cut inside the erase before a page".to_string()),
+            None => Some(format!("cut inside {pending}")),
+        },
+        _ => None,
+    }
+}
+
+/// The size of what was begun.
+fn begun(state: &State, action: &Action) -> Option<&'static str> {
+    match action {
+        Action::Append { keys, .. } if keys.len() > 24 => Some("append of several pages"),
+        Action::Commit if state.index.len() > 24 => Some("commit of several pages"),
+        Action::Collect { block } => Some(match live_count(state, *block) {
+            0 => "collection of no page",
+            1..=24 => "collection of one page",
+            _ => "collection of several pages",
+        }),
+        Action::Format if state.pending.is_some() => Some("format while something is pending"),
+        _ => None,
     }
 }
