@@ -7,9 +7,11 @@
 #include <inttypes.h>
 #include <stdio.h>
 #include <stdlib.h>
+#include <string.h>
 #include "valve_journal.h"
 
 static uint8_t medium[4 * 4096];
+static uint8_t buffer[VJ_BUFFER_LENGTH]; /* the write buffer, which stays empty here: examples/buffer.c uses it */
 static uint16_t keys[6144];
 static uint64_t words[6144];
 
@@ -28,7 +30,7 @@ static VjState finish(const char *call, VjBegun begun)
     expect(call, begun.number);
     VjState state = begun.state;
     for (;;) {
-        VjStepped step = vj_step(medium, sizeof medium, state);
+        VjStepped step = vj_step(medium, sizeof medium, state, buffer, sizeof buffer);
         expect(call, step.number);
         printf("%s: %s %" PRIu64 "\n", call, step.touched == VJ_PAGE ? "page" : "block", step.at);
         state = step.state;
@@ -61,14 +63,15 @@ static VjState morning(void)
 
 int main(void)
 {
+    memset(buffer, 0xFF, sizeof buffer);
     VjState state = finish("format", vj_format(medium, sizeof medium));
-    state = finish("append", vj_append(medium, sizeof medium, state, (uint16_t[]){5, 7}, 2, (uint64_t[]){1000, 20}, 2));
-    state = finish("append", vj_append(medium, sizeof medium, state, (uint16_t[]){32768 + 5}, 1, (uint64_t[]){0}, 1));
-    state = finish("commit", vj_commit(medium, sizeof medium, morning()));
+    state = finish("append", vj_append(medium, sizeof medium, state, buffer, sizeof buffer, (uint16_t[]){5, 7}, 2, (uint64_t[]){1000, 20}, 2));
+    state = finish("append", vj_append(medium, sizeof medium, state, buffer, sizeof buffer, (uint16_t[]){32768 + 5}, 1, (uint64_t[]){0}, 1));
+    state = finish("commit", vj_commit(medium, sizeof medium, morning(), buffer, sizeof buffer));
     VjPick pick = vj_pick(medium, sizeof medium, state);
     expect("pick", pick.number);
     if (pick.found)
-        finish("collect", vj_collect(medium, sizeof medium, state, pick.block));
+        finish("collect", vj_collect(medium, sizeof medium, state, buffer, sizeof buffer, pick.block));
     morning();
     return 0;
 }

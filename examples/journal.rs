@@ -9,6 +9,9 @@ mod valve_journal;
 
 use valve_journal::*;
 
+// A write buffer that holds nothing.
+const EMPTY: [u8; BUFFER_LENGTH] = [255; BUFFER_LENGTH];
+
 // Ends the program where a call refuses.
 fn expect(call: &str, number: u8) {
     if number != 0 {
@@ -17,12 +20,14 @@ fn expect(call: &str, number: u8) {
     }
 }
 
-// Steps until the operation begun is finished. A driver carries each step to the chip before the next.
+// Steps until the operation begun is finished, with an empty write buffer: examples/buffer.rs uses one. A driver carries each step to the
+// chip before the next.
 fn finish(m: &mut [u8], call: &str, begun: VjBegun) -> VjState {
     expect(call, begun.number);
+    let mut b = EMPTY;
     let mut state = begun.state;
     loop {
-        let step = unsafe { vj_step(m.as_mut_ptr(), m.len(), state) };
+        let step = unsafe { vj_step(m.as_mut_ptr(), m.len(), state, b.as_mut_ptr(), b.len()) };
         expect(call, step.number);
         println!("{call}: {} {}", if step.touched == PAGE { "page" } else { "block" }, step.at);
         state = step.state;
@@ -34,7 +39,7 @@ fn finish(m: &mut [u8], call: &str, begun: VjBegun) -> VjState {
 
 // An append of these keys and words, finished.
 fn append(m: &mut [u8], state: VjState, keys: &[u16], words: &[u64]) -> VjState {
-    let begun = unsafe { vj_append(m.as_ptr(), m.len(), state, keys.as_ptr(), keys.len(), words.as_ptr(), words.len()) };
+    let begun = unsafe { vj_append(m.as_ptr(), m.len(), state, EMPTY.as_ptr(), EMPTY.len(), keys.as_ptr(), keys.len(), words.as_ptr(), words.len()) };
     finish(m, "append", begun)
 }
 
@@ -64,12 +69,12 @@ fn main() {
     let mut state = finish(m, "format", begun);
     state = append(m, state, &[5, 7], &[1000, 20]);
     append(m, state, &[32768 + 5], &[0]);
-    let begun = unsafe { vj_commit(m.as_ptr(), m.len(), morning(m)) };
+    let begun = unsafe { vj_commit(m.as_ptr(), m.len(), morning(m), EMPTY.as_ptr(), EMPTY.len()) };
     state = finish(m, "commit", begun);
     let pick = unsafe { vj_pick(m.as_ptr(), m.len(), state) };
     expect("pick", pick.number);
     if pick.found == 1 {
-        let begun = unsafe { vj_collect(m.as_ptr(), m.len(), state, pick.block) };
+        let begun = unsafe { vj_collect(m.as_ptr(), m.len(), state, EMPTY.as_ptr(), EMPTY.len(), pick.block) };
         finish(m, "collect", begun);
     }
     morning(m);

@@ -1,4 +1,5 @@
-/* The valve journal for C programs: recovery, the log, the pages of a medium, the readings of a state, and the operations that write.
+/* The valve journal for C programs: recovery, the log, the pages of a medium, the readings of a state, the operations that write, and the
+ * write buffer.
  *
  * A medium is a run of bytes in memory, lent to each call as a pointer and a length. It has 4 to 16 blocks of 4096 bytes; a block has 16
  * pages of 256 bytes. Every call takes a medium of any length and any content and answers; none keeps a pointer, allocates, prints or
@@ -7,30 +8,37 @@
  * A lent pointer is aligned for its type and, where its length is not 0, points to that many elements, which nobody else writes while the
  * call runs. A list that a call writes overlaps no other list that is lent to the same call.
  *
- * Only vj_step writes to a medium. An operation is begun by one call, vj_format, vj_append, vj_commit or vj_collect, which hands back the
- * state with the operation pending; then each vj_step makes one device step of it, until it tells that the operation is finished. What a
- * step touched is carried to the chip before the next call. Every call gets the state that the last one handed back.
+ * Only vj_step writes to a medium. An operation is begun by one call, vj_format, vj_append, vj_commit, vj_collect or vj_flush, which hands
+ * back the state with the operation pending; then each vj_step makes one device step of it, until it tells that the operation is finished.
+ * What a step touched is carried to the chip before the next call. Every call gets the state that the last one handed back.
  *
- * Numbers of refusals. 0 is no refusal; the lowest number that applies is given, save that vj_opening gives 18 before 6, vj_collect 15
- * before 6, and vj_step 9 before 6.
+ * A write buffer is a run of VJ_BUFFER_LENGTH bytes that the caller keeps beside the state. It gathers whole groups, 16 entries at most,
+ * which a flush programs as one page. An empty buffer is all FFh. It is lent all FFh after formatting, after a cut and after a recovery;
+ * else each call that takes it is lent it as the last such call left it. vj_buffer and vj_step write to it, no other call. What is in the
+ * buffer is lost in a cut: a group is on the medium once its flush is finished. A buffer of any length and content may be lent: one that
+ * is neither empty nor a page in the making, or of another length, is refused with 7.
+ *
+ * Numbers of refusals. 0 is no refusal; each call says its numbers in the order in which they are asked, and gives the first that applies.
  *   1  the medium's length is not 4 to 16 times 4096 bytes
  *   2  a whole page breaks the page rules
  *   3  two whole pages share a serial
  *   4  no complete base
  *   5  from the base on, a gap in the serials or a page out of its group
  *   6  the base's valves do not rise, over 192 valves are set, or an address of the index lacks its entry
- *   7  the state does not fit the medium
+ *   7  the state does not fit the medium, or the buffer is not well formed or, while a flush is pending, holds nothing that can be flushed
  *   8  an operation is pending
  *   9  no operation is pending
- *  10  the lists of an append differ in length, or have no entry, or over 96
+ *  10  the lists of a group differ in length, or have no entry, or over 96; or a flush of an empty buffer
  *  11  a removal's word is not 0
- *  12  more than 192 valves would be set
+ *  12  more than 192 valves would be set, those of the buffer counted
  *  13  too few pages are available
  *  14  too few serials are left: the next serial and the pages make more than 2^64 - 1
  *  15  the block is not collectible, or there is no such block
  *  16  the page due is not there, or is not clean
  *  17  a lent list is too short
  *  18  the valve is not set
+ *  23  a group has more entries than the buffer has places left
+ *  24  the buffer holds a group where an append, a commit or a collection is begun
  */
 #ifndef VALVE_JOURNAL_H
 #define VALVE_JOURNAL_H
@@ -65,8 +73,12 @@ enum {
     VJ_APPEND = 1,  /* an append; progress is the pages written */
     VJ_COMMIT = 2,  /* a commit; progress is the pages written */
     VJ_COLLECT = 3, /* a collection; progress is the block */
-    VJ_FORMAT = 4   /* formatting; progress is the blocks erased */
+    VJ_FORMAT = 4,  /* formatting; progress is the blocks erased */
+    VJ_FLUSH = 5    /* a flush of the lent buffer; progress means nothing */
 };
+
+/* The length of a write buffer in bytes. */
+enum { VJ_BUFFER_LENGTH = 256 };
 
 /* What the journal keeps between calls. */
 typedef struct VjState {
@@ -74,7 +86,7 @@ typedef struct VjState {
     VjCells index;       /* the valves that are set, ascending, each with the address of its entry */
     VjCells group;       /* the entries of a pending append; else it means nothing */
     uint16_t pages[4];   /* the pages that a pending append has written, the first `progress`; else they mean nothing */
-    uint8_t operation;   /* what is pending: VJ_IDLE to VJ_FORMAT */
+    uint8_t operation;   /* what is pending: VJ_IDLE to VJ_FLUSH */
     uint64_t progress;   /* how far it is, or its block */
     uint8_t erased[256]; /* for each block 1 where a step erased it since recovery or since formatting began; any other number is no record */
 } VjState;
@@ -103,6 +115,14 @@ typedef struct VjWord {
     uint64_t word;  /* the valve's word; on a refusal it means nothing */
 } VjWord;
 
+/* What vj_word answers: where the eight bytes of a valve's word stand, little-endian. */
+typedef struct VjWordPlace {
+    uint8_t number;    /* 0, or the number of the refusal */
+    uint8_t in_buffer; /* 1 where they stand in the lent buffer, 0 where in the medium; on a refusal 0 */
+    size_t offset;     /* the first of them; on a refusal 0 */
+    size_t length;     /* 8; on a refusal 0 */
+} VjWordPlace;
+
 /* What vj_pick answers. */
 typedef struct VjPick {
     uint8_t number; /* 0, or the number of the refusal */
@@ -123,7 +143,7 @@ typedef struct VjPages {
     uint64_t pages; /* how many pages; on a refusal it means nothing */
 } VjPages;
 
-/* What vj_format, vj_append, vj_commit and vj_collect answer. */
+/* What vj_format, vj_append, vj_commit, vj_collect and vj_flush answer. */
 typedef struct VjBegun {
     uint8_t number; /* 0, or the number of the refusal */
     VjState state;  /* the state with the operation pending; on a refusal every field as given; where vj_format refuses it means nothing */
@@ -158,9 +178,9 @@ VjPart vj_page(const uint8_t *medium, size_t medium_length, size_t p);
 /* The calls from here on, vj_format aside, take a state with its medium. A state of any content may be given: one that does not fit the
  * medium, or whose operation names none, is refused with 7. */
 
-/* The next four calls read a state against its medium; both stay as they are. */
+/* The next five calls read a state against its medium; both stay as they are. All but vj_word leave the write buffer aside. */
 
-/* The word of a valve. Refuses 1, 7, 18 and, where the valve's address lacks its entry, 6, in this order. */
+/* The word of a valve on the medium. Refuses 1, 7, 18 and, where the valve's address lacks its entry, 6, in this order. */
 VjWord vj_opening(const uint8_t *medium, size_t medium_length, VjState state, uint16_t valve);
 
 /* The block to collect, if there is one. Refuses 1 and 7. */
@@ -173,33 +193,50 @@ VjSurvey vj_survey(const uint8_t *medium, size_t medium_length, VjState state);
  * or not a step erased it. Refuses 1 and 7. */
 VjPages vj_available(const uint8_t *medium, size_t medium_length, VjState state);
 
-/* The next four calls begin an operation. The medium stays as it is: vj_step does the work. */
+/* Where the word of a valve stands: in the lent buffer, where the last entry there that names the valve counts, else in the medium. So a
+ * change that is buffered shows before its flush. Refuses 1, 7, 18 (also where that entry removes the valve) and, where the medium is
+ * asked and the valve's address lacks its entry, 6, in this order. */
+VjWordPlace vj_word(const uint8_t *medium, size_t medium_length, VjState state, const uint8_t *buffer, size_t buffer_length, uint16_t valve);
+
+/* The next five calls begin an operation. The medium stays as it is: vj_step does the work. */
 
 /* Begins formatting. It takes no state, so it drops whatever was pending. Refuses 1. */
 VjBegun vj_format(const uint8_t *medium, size_t medium_length);
 
 /* Begins an append of 1 to 96 entries, in two lists of one length: the key is the valve, or 32768 + valve for a removal, whose word is 0.
- * The entries are kept in the state; the lists are not used again. 16 pages must stay available. Refuses 1, 7, 8 and 10 to 14. */
-VjBegun vj_append(const uint8_t *medium, size_t medium_length, VjState state, const uint16_t *keys, size_t keys_length, const uint64_t *words, size_t words_length);
+ * The entries are kept in the state; the lists are not used again. 16 pages must stay available. Refuses 1, 7, 8, 24, 10, 11, 12, 13 and
+ * 14, in this order. */
+VjBegun vj_append(const uint8_t *medium, size_t medium_length, VjState state, const uint8_t *buffer, size_t buffer_length, const uint16_t *keys, size_t keys_length, const uint64_t *words, size_t words_length);
 
-/* Begins a commit: a new base of the valves that are set. Refuses 1, 7, 8, 13 and 14. */
-VjBegun vj_commit(const uint8_t *medium, size_t medium_length, VjState state);
+/* Begins a commit: a new base of the valves that are set. Refuses 1, 7, 8, 24, 13 and 14, in this order. */
+VjBegun vj_commit(const uint8_t *medium, size_t medium_length, VjState state, const uint8_t *buffer, size_t buffer_length);
 
-/* Begins the collection of a block, counted from 0: its live entries are moved, then it is erased. Refuses 1, 7, 8, 15, 6 where a live
+/* Begins the collection of a block, counted from 0: its live entries are moved, then it is erased. Refuses 1, 7, 8, 24, 15, 6 where a live
  * entry of the block is not there, 13 and 14, in this order. */
-VjBegun vj_collect(const uint8_t *medium, size_t medium_length, VjState state, uint64_t block);
+VjBegun vj_collect(const uint8_t *medium, size_t medium_length, VjState state, const uint8_t *buffer, size_t buffer_length, uint64_t block);
+
+/* Begins a flush of the groups in the buffer: one page. 16 pages must stay available. The buffer stays as it is until the step that
+ * programs the page. Refuses 1, 7, 8, 10 where the buffer is empty, 11, 12, 13 and 14, in this order. */
+VjBegun vj_flush(const uint8_t *medium, size_t medium_length, VjState state, const uint8_t *buffer, size_t buffer_length);
+
+/* Puts a group of 1 to 16 entries, given as to vj_append, after those that the buffer holds; 16 entries fill it. The state stays as it is
+ * and is the one to give to the next call. Answers 0, or the number of the refusal, and then every byte of the buffer stays. 12 is counted
+ * over the entries of the buffer, then those of the group; 13 and 14 are asked as its flush would meet them. Refuses 1, 7, 8, 10, 11, 12,
+ * 23, 13 and 14, in this order. */
+uint8_t vj_buffer(const uint8_t *medium, size_t medium_length, VjState state, uint8_t *buffer, size_t buffer_length, const uint16_t *keys, size_t keys_length, const uint64_t *words, size_t words_length);
 
 /* Makes one device step of the pending operation: it programs one clean page, or erases one block. No other byte of the medium changes,
- * and on a refusal none does.
+ * and on a refusal none does. A flush programs the buffer as it is lent to the step that programs its page, and that step leaves the buffer
+ * all FFh; every other step, and every refusal, leaves the buffer as it is.
  *
- * A block that reads clean can be weak if its erase was cut. So where the next page of an append, a commit or a collection is the first of a
- * new head block and the state has no record that this block was erased, the step erases the block: it touches VJ_BLOCK, the operation
- * is not finished, and the next step programs the page. After a recovery no block has the record; formatting erases them all. A driver
- * carries this erase to the chip like any other, though the block reads FFh already.
+ * A block that reads clean can be weak if its erase was cut. So where the next page of an append, a commit, a collection or a flush is the
+ * first of a new head block and the state has no record that this block was erased, the step erases the block: it touches VJ_BLOCK, the
+ * operation is not finished, and the next step programs the page. After a recovery no block has the record; formatting erases them all. A
+ * driver carries this erase to the chip like any other, though the block reads FFh already.
  *
  * Refuses 1, 7, 9, 6 where an entry to move is not there, 14 for a page to program, and 16, in this order; a step that erases only 1, 7
  * and 9. */
-VjStepped vj_step(uint8_t *medium, size_t medium_length, VjState state);
+VjStepped vj_step(uint8_t *medium, size_t medium_length, VjState state, uint8_t *buffer, size_t buffer_length);
 
 #ifdef __cplusplus
 }

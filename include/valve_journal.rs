@@ -41,6 +41,10 @@ pub const APPEND: u8 = 1;
 pub const COMMIT: u8 = 2;
 pub const COLLECT: u8 = 3;
 pub const FORMAT: u8 = 4;
+pub const FLUSH: u8 = 5;
+
+/// The length of a write buffer in bytes.
+pub const BUFFER_LENGTH: usize = 256;
 
 /// The values of [`VjStepped::touched`].
 pub const PAGE: u8 = 1;
@@ -76,6 +80,16 @@ pub struct VjPart {
 pub struct VjWord {
     pub number: u8,
     pub word: u64,
+}
+
+/// What `vj_word` answers: where the eight bytes of a valve's word stand.
+#[repr(C)]
+#[derive(Clone, Copy, PartialEq, Eq, Debug)]
+pub struct VjWordPlace {
+    pub number: u8,
+    pub in_buffer: u8,
+    pub offset: usize,
+    pub length: usize,
 }
 
 /// What `vj_pick` answers: `found` is 1 exactly where a block is picked.
@@ -134,8 +148,11 @@ extern "C" {
     pub fn vj_survey(medium: *const u8, medium_length: usize, state: VjState) -> VjSurvey;
     pub fn vj_available(medium: *const u8, medium_length: usize, state: VjState) -> VjPages;
     pub fn vj_format(medium: *const u8, medium_length: usize) -> VjBegun;
-    pub fn vj_append(medium: *const u8, medium_length: usize, state: VjState, keys: *const u16, keys_length: usize, words: *const u64, words_length: usize) -> VjBegun;
-    pub fn vj_commit(medium: *const u8, medium_length: usize, state: VjState) -> VjBegun;
-    pub fn vj_collect(medium: *const u8, medium_length: usize, state: VjState, block: u64) -> VjBegun;
-    pub fn vj_step(medium: *mut u8, medium_length: usize, state: VjState) -> VjStepped;
+    pub fn vj_word(medium: *const u8, medium_length: usize, state: VjState, buffer: *const u8, buffer_length: usize, valve: u16) -> VjWordPlace;
+    pub fn vj_append(medium: *const u8, medium_length: usize, state: VjState, buffer: *const u8, buffer_length: usize, keys: *const u16, keys_length: usize, words: *const u64, words_length: usize) -> VjBegun;
+    pub fn vj_commit(medium: *const u8, medium_length: usize, state: VjState, buffer: *const u8, buffer_length: usize) -> VjBegun;
+    pub fn vj_collect(medium: *const u8, medium_length: usize, state: VjState, buffer: *const u8, buffer_length: usize, block: u64) -> VjBegun;
+    pub fn vj_flush(medium: *const u8, medium_length: usize, state: VjState, buffer: *const u8, buffer_length: usize) -> VjBegun;
+    pub fn vj_buffer(medium: *const u8, medium_length: usize, state: VjState, buffer: *mut u8, buffer_length: usize, keys: *const u16, keys_length: usize, words: *const u64, words_length: usize) -> u8;
+    pub fn vj_step(medium: *mut u8, medium_length: usize, state: VjState, buffer: *mut u8, buffer_length: usize) -> VjStepped;
 }

@@ -5,7 +5,7 @@
 //!     cargo bench --offline --manifest-path tests/Cargo.toml
 
 use journal_tests::proved::{self, VjState};
-use journal_tests::reader::{self, Refused, BLOCK_BYTES};
+use journal_tests::reader::{self, Refused, BLOCK_BYTES, PAGE_BYTES};
 use journal_tests::writer::{self, State, Step};
 use std::hint::black_box;
 use std::time::{Duration, Instant};
@@ -21,13 +21,29 @@ trait Calls {
     fn append(m: &[u8], state: &mut Self::State, k: &[u16], w: &[u64]) -> Result<(), Refused>;
     fn commit(medium: &[u8], state: &mut Self::State) -> Result<(), Refused>;
     fn collect(medium: &[u8], state: &mut Self::State, block: usize) -> Result<(), Refused>;
-    fn step(medium: &mut [u8], state: &mut Self::State) -> Result<Step, Refused>;
+    fn buffer(
+        m: &[u8],
+        state: &Self::State,
+        b: &mut [u8],
+        k: &[u16],
+        w: &[u64],
+    ) -> Result<(), Refused>;
+    fn flush(medium: &[u8], state: &mut Self::State, buffer: &[u8]) -> Result<(), Refused>;
+    fn step(m: &mut [u8], state: &mut Self::State, buffer: &mut [u8]) -> Result<Step, Refused>;
 
     /// Steps until the pending operation is finished.
-    fn finish(medium: &mut [u8], state: &mut Self::State) {
-        while !Self::step(medium, state).expect("a step").finished {}
+    fn finish(medium: &mut [u8], state: &mut Self::State, buffer: &mut [u8]) {
+        while !Self::step(medium, state, buffer).expect("a step").finished {}
+    }
+
+    /// The same with an empty buffer.
+    fn finish_unbuffered(medium: &mut [u8], state: &mut Self::State) {
+        Self::finish(medium, state, &mut { EMPTY });
     }
 }
+
+/// An empty buffer.
+const EMPTY: [u8; PAGE_BYTES] = [0xFF; PAGE_BYTES];
 
 /// Takes the calls that read and those that write from these modules.
 macro_rules! calls {
@@ -46,16 +62,28 @@ macro_rules! calls {
                 $reader::log_into(m, keys, words)
             }
             fn append(m: &[u8], state: &mut $state, k: &[u16], w: &[u64]) -> Result<(), Refused> {
-                $writer::append(m, state, k, w)
+                $writer::append(m, state, &EMPTY, k, w)
             }
             fn commit(medium: &[u8], state: &mut $state) -> Result<(), Refused> {
-                $writer::commit(medium, state)
+                $writer::commit(medium, state, &EMPTY)
             }
             fn collect(medium: &[u8], state: &mut $state, block: usize) -> Result<(), Refused> {
-                $writer::collect(medium, state, block)
+                $writer::collect(medium, state, &EMPTY, block)
             }
-            fn step(medium: &mut [u8], state: &mut $state) -> Result<Step, Refused> {
-                $writer::step(medium, state)
+            fn buffer(
+                m: &[u8],
+                state: &$state,
+                b: &mut [u8],
+                k: &[u16],
+                w: &[u64],
+            ) -> Result<(), Refused> {
+                $writer::buffer(m, state, b, k, w)
+            }
+            fn flush(medium: &[u8], state: &mut $state, buffer: &[u8]) -> Result<(), Refused> {
+                $writer::flush(medium, state, buffer)
+            }
+            fn step(m: &mut [u8], state: &mut $state, buffer: &mut [u8]) -> Result<Step, Refused> {
+                $writer::step(m, state, buffer)
             }
         }
     };
@@ -78,7 +106,7 @@ fn morning<C: Calls>(medium: &mut [u8], _: C::State) {
     let (mut keys, mut words) = ([0; 6144], [0; 6144]);
     black_box(C::log_into(medium, &mut keys, &mut words).expect("the log"));
     C::commit(medium, &mut state).expect("commit");
-    C::finish(medium, &mut state);
+    C::finish_unbuffered(medium, &mut state);
 }
 
 /// Groups of so many entries, until one is refused.
@@ -89,14 +117,33 @@ fn appends<C: Calls, const ENTRIES: usize>(medium: &mut [u8], mut state: C::Stat
             assert_eq!((refused, group), (Refused(13), 239));
             return;
         }
-        C::finish(medium, &mut state);
+        C::finish_unbuffered(medium, &mut state);
+    }
+}
+
+/// Single moves put into the buffer, which is flushed where it is full, until
+/// one is refused by 13.
+fn gathered<C: Calls>(medium: &mut [u8], mut state: C::State) {
+    let mut buffer = EMPTY;
+    for group in 0.. {
+        let (keys, words) = some_group::<1>(group);
+        let mut result = C::buffer(medium, &state, &mut buffer, &keys, &words);
+        if result == Err(Refused(23)) {
+            C::flush(medium, &mut state, &buffer).expect("flush");
+            C::finish(medium, &mut state, &mut buffer);
+            result = C::buffer(medium, &state, &mut buffer, &keys, &words);
+        }
+        if let Err(refused) = result {
+            assert_eq!((refused, group), (Refused(13), 239 * 16));
+            return;
+        }
     }
 }
 
 /// A collection of block 0 to its end.
 fn collection<C: Calls>(medium: &mut [u8], mut state: C::State) {
     C::collect(medium, &mut state, 0).expect("collect");
-    C::finish(medium, &mut state);
+    C::finish_unbuffered(medium, &mut state);
 }
 
 /// The keys and words of the n-th group.
@@ -112,7 +159,7 @@ fn some_group<const ENTRIES: usize>(group: usize) -> ([u16; ENTRIES], [u64; ENTR
 fn formatted() -> (Vec<u8>, State) {
     let mut medium = vec![0xFF; 16 * BLOCK_BYTES];
     let mut state = writer::format(&medium).expect("format");
-    Second::finish(&mut medium, &mut state);
+    Second::finish_unbuffered(&mut medium, &mut state);
     (medium, state)
 }
 
@@ -121,10 +168,10 @@ fn grown(groups: usize) -> (Vec<u8>, State) {
     let (mut medium, mut state) = formatted();
     for group in 0..groups {
         let (keys, words) = some_group::<24>(group);
-        if writer::append(&medium, &mut state, &keys, &words).is_err() {
+        if Second::append(&medium, &mut state, &keys, &words).is_err() {
             break;
         }
-        Second::finish(&mut medium, &mut state);
+        Second::finish_unbuffered(&mut medium, &mut state);
     }
     (medium, state)
 }
@@ -133,8 +180,8 @@ fn grown(groups: usize) -> (Vec<u8>, State) {
 /// and all valves live in it.
 fn collectible() -> (Vec<u8>, State) {
     let (mut medium, mut state) = grown(15);
-    writer::commit(&medium, &mut state).expect("commit");
-    Second::finish(&mut medium, &mut state);
+    Second::commit(&medium, &mut state).expect("commit");
+    Second::finish_unbuffered(&mut medium, &mut state);
     assert_eq!(reader::pick(&medium, &state), Ok(Some(0)));
     assert_eq!(reader::live_count(&state, 0), state.index.len());
     assert!(state.index.len() > 96);
@@ -187,5 +234,9 @@ fn main() {
     compare("groups of 24 until 13", formatted(), proved, second);
     let (proved, second) = (appends::<Proved, 2>, appends::<Second, 2>);
     compare("groups of 2 until 13", formatted(), proved, second);
+    let (proved, second) = (appends::<Proved, 1>, appends::<Second, 1>);
+    compare("239 single moves on 239 pages, appended until 13", formatted(), proved, second);
+    let name = "3824 single moves on 239 pages, gathered and flushed until 13";
+    compare(name, formatted(), gathered::<Proved>, gathered::<Second>);
     compare("a collection", collectible(), collection::<Proved>, collection::<Second>);
 }

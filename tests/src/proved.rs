@@ -7,7 +7,7 @@
 
 pub use crate::valve_journal::*;
 
-use crate::reader::{Entry, Pending, Place, Refused, State, MAX_BLOCKS, MAX_VALVES};
+use crate::reader::{Entry, Pending, Place, Refused, State, WordAt, MAX_BLOCKS, MAX_VALVES};
 use crate::writer::{Step, Touched};
 
 // ---------------------------------------------------------------------------
@@ -48,6 +48,7 @@ impl From<&State> for VjState {
             Some(Pending::Commit { done }) => (COMMIT, *done),
             Some(Pending::Collect { block }) => (COLLECT, *block as u64),
             Some(Pending::Format { erased }) => (FORMAT, *erased as u64),
+            Some(Pending::Flush) => (FLUSH, 0),
         };
         let head = VjHead {
             blocks: state.blocks,
@@ -85,6 +86,7 @@ impl VjState {
         let progress = usize::try_from(self.progress).ok()?;
         match self.operation {
             IDLE => Some(None),
+            FLUSH => Some(Some(Pending::Flush)),
             APPEND => {
                 let entry = |(key, word)| Entry { key, word };
                 let entries = self.group.used()?.map(entry).collect();
@@ -138,6 +140,24 @@ pub fn open(medium: &[u8], state: &VjState, valve: u16) -> Result<u64, Refused> 
     answer(r.number, r.word)
 }
 
+/// The place of a valve's word: eight bytes, or an empty part with a refusal.
+pub fn word_at(
+    medium: &[u8],
+    state: &VjState,
+    buffer: &[u8],
+    valve: u16,
+) -> Result<WordAt, Refused> {
+    let (m, b) = (medium.as_ptr(), buffer.as_ptr());
+    let r = unsafe { vj_word(m, medium.len(), *state, b, buffer.len(), valve) };
+    let place = match (r.number, r.in_buffer, r.offset, r.length) {
+        (0, 1, offset, 8) => WordAt::Buffer(offset),
+        (0, 0, offset, 8) => WordAt::Medium(offset),
+        (1.., 0, 0, 0) => WordAt::Medium(0),
+        _ => panic!("{r:?} is neither eight bytes nor a refusal with an empty part"),
+    };
+    answer(r.number, place)
+}
+
 /// The picker.
 pub fn pick(medium: &[u8], state: &VjState) -> Result<Option<usize>, Refused> {
     let r = unsafe { vj_pick(medium.as_ptr(), medium.len(), *state) };
@@ -167,25 +187,49 @@ pub fn format(medium: &[u8]) -> Result<VjState, Refused> {
 pub fn append(
     medium: &[u8],
     state: &mut VjState,
+    buffer: &[u8],
     keys: &[u16],
     words: &[u64],
 ) -> Result<(), Refused> {
-    let (medium, length) = (medium.as_ptr(), medium.len());
-    let (key, word) = (keys.as_ptr(), words.as_ptr());
-    let r = unsafe { vj_append(medium, length, *state, key, keys.len(), word, words.len()) };
-    begun(r, state)
+    let (m, b, k, w) = (medium.as_ptr(), buffer.as_ptr(), keys.as_ptr(), words.as_ptr());
+    let (ml, bl, kl, wl) = (medium.len(), buffer.len(), keys.len(), words.len());
+    begun(unsafe { vj_append(m, ml, *state, b, bl, k, kl, w, wl) }, state)
 }
 
 /// Begins a commit.
-pub fn commit(medium: &[u8], state: &mut VjState) -> Result<(), Refused> {
-    let r = unsafe { vj_commit(medium.as_ptr(), medium.len(), *state) };
-    begun(r, state)
+pub fn commit(medium: &[u8], state: &mut VjState, buffer: &[u8]) -> Result<(), Refused> {
+    let (m, b) = (medium.as_ptr(), buffer.as_ptr());
+    begun(unsafe { vj_commit(m, medium.len(), *state, b, buffer.len()) }, state)
 }
 
 /// Begins a collection of a named block.
-pub fn collect(medium: &[u8], state: &mut VjState, block: usize) -> Result<(), Refused> {
-    let r = unsafe { vj_collect(medium.as_ptr(), medium.len(), *state, block as u64) };
-    begun(r, state)
+pub fn collect(
+    medium: &[u8],
+    state: &mut VjState,
+    buffer: &[u8],
+    block: usize,
+) -> Result<(), Refused> {
+    let (m, b) = (medium.as_ptr(), buffer.as_ptr());
+    begun(unsafe { vj_collect(m, medium.len(), *state, b, buffer.len(), block as u64) }, state)
+}
+
+/// Puts a group into the lent buffer.
+pub fn buffer(
+    medium: &[u8],
+    state: &VjState,
+    buffer: &mut [u8],
+    keys: &[u16],
+    words: &[u64],
+) -> Result<(), Refused> {
+    let (m, b, k, w) = (medium.as_ptr(), buffer.as_mut_ptr(), keys.as_ptr(), words.as_ptr());
+    let (ml, bl, kl, wl) = (medium.len(), buffer.len(), keys.len(), words.len());
+    answer(unsafe { vj_buffer(m, ml, *state, b, bl, k, kl, w, wl) }, ())
+}
+
+/// Begins a flush.
+pub fn flush(medium: &[u8], state: &mut VjState, buffer: &[u8]) -> Result<(), Refused> {
+    let (m, b) = (medium.as_ptr(), buffer.as_ptr());
+    begun(unsafe { vj_flush(m, medium.len(), *state, b, buffer.len()) }, state)
 }
 
 /// The answer of a call that begins an operation.
@@ -195,8 +239,9 @@ fn begun(r: VjBegun, state: &mut VjState) -> Result<(), Refused> {
 }
 
 /// One device step of the pending operation.
-pub fn step(medium: &mut [u8], state: &mut VjState) -> Result<Step, Refused> {
-    let r = unsafe { vj_step(medium.as_mut_ptr(), medium.len(), *state) };
+pub fn step(medium: &mut [u8], state: &mut VjState, buffer: &mut [u8]) -> Result<Step, Refused> {
+    let (m, b) = (medium.as_mut_ptr(), buffer.as_mut_ptr());
+    let r = unsafe { vj_step(m, medium.len(), *state, b, buffer.len()) };
     *state = r.state;
     answer(r.number, ())?;
     let at = r.at as usize;

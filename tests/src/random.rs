@@ -3,10 +3,11 @@
 
 use crate::history::{Event, History};
 use crate::reader::{
-    self, Class, Entry, Page, Place, Refused, BASE, BLOCK_BYTES, BLOCK_PAGES, GROUP_ENTRIES,
-    MAX_BLOCKS, MAX_VALVES, MIN_BLOCKS, MOVED, NODES, PAGE_BYTES, PAGE_ENTRIES, RECORDS, REMOVAL,
+    self, Class, Entry, Page, Place, Refused, BASE, BLOCK_BYTES, BLOCK_PAGES, BUFFER_ENTRIES,
+    GATHERED, GROUP_ENTRIES, MAX_BLOCKS, MAX_VALVES, MIN_BLOCKS, MOVED, NODES, PAGE_BYTES,
+    PAGE_ENTRIES, RECORDS, REMOVAL,
 };
-use crate::writer::{self, lay_page, put_page, seal, Pending, State, Step, Touched};
+use crate::writer::{self, lay_gathered, lay_page, put_page, seal, Pending, State, Step, Touched};
 
 // ---------------------------------------------------------------------------
 // The generator
@@ -141,6 +142,9 @@ pub enum Action {
     Append { keys: Vec<u16>, words: Vec<u64> },
     Commit,
     Collect { block: usize },
+    /// A group is put into the buffer.
+    Buffer { keys: Vec<u16>, words: Vec<u64> },
+    Flush,
     Step,
     /// A cut between steps.
     Cut,
@@ -154,6 +158,8 @@ pub enum Action {
 #[derive(Clone, Copy, PartialEq, Eq, Debug)]
 pub enum Reading {
     Open { valve: u16 },
+    /// The place of a valve's word, in the buffer or the medium.
+    Word { valve: u16 },
     Pick,
     Survey,
     Available,
@@ -172,11 +178,13 @@ pub enum Outcome {
     Cut { struck: Option<Touched>, complete: bool },
 }
 
-/// A medium, the state last handed back (none after a cut), and the plain
-/// history (none until formatting is finished).
+/// A medium, the state last handed back (none after a cut), the buffer as the
+/// next call is lent it, and the plain history (none until formatting is
+/// finished).
 #[derive(Clone, Debug)]
 pub struct Life {
     pub medium: Vec<u8>,
+    pub buffer: [u8; PAGE_BYTES],
     /// Whether each block is weak: its last erase was cut, or is not known.
     pub weak: Vec<bool>,
     pub state: Option<State>,
@@ -195,6 +203,8 @@ struct Habits {
     cut_one_in: usize,
     /// Of so many entries one is a removal.
     removal_one_in: usize,
+    /// Of so many operations one is a group put into an empty buffer.
+    gather_one_in: usize,
 }
 
 impl Habits {
@@ -203,6 +213,7 @@ impl Habits {
             valves: random.one_of(&[3, 40, 191, 200, 260, 32768]),
             cut_one_in: random.one_of(&[2, 6, 20, 60, 400]),
             removal_one_in: random.one_of(&[2, 5, 30]),
+            gather_one_in: random.one_of(&[2, 5, 20, 100]),
         }
     }
 }
@@ -218,13 +229,14 @@ impl Life {
             _ => random.fill(&mut medium),
         }
         let (weak, habits) = (vec![true; blocks], Habits::new(random));
-        Life { medium, weak, state: None, history: None, habits, full: 0 }
+        let buffer = [0xFF; PAGE_BYTES];
+        Life { medium, buffer, weak, state: None, history: None, habits, full: 0 }
     }
 
-    /// Whether formatting was finished and nothing was begun since.
+    /// Whether formatting was finished and nothing was begun or buffered since.
     pub fn just_formatted(&self) -> bool {
         let new = |state: &State| state.next_serial == 2 && state.pending.is_none();
-        self.history.is_some() && self.state.as_ref().is_some_and(new)
+        self.buffer_is_empty() && self.history.is_some() && self.state.as_ref().is_some_and(new)
     }
 
     /// Makes a journal that is just formatted an old one, with so many serials
@@ -235,6 +247,10 @@ impl Life {
         state.first_base_serial = state.next_serial - 1;
         let base = lay_page(BASE, 3, state.first_base_serial, &[]);
         put_page(&mut self.medium, 0, &base);
+    }
+
+    fn buffer_is_empty(&self) -> bool {
+        self.buffer == [0xFF; PAGE_BYTES]
     }
 
     /// What happens next. Where the state is lost that is formatting or
@@ -268,12 +284,13 @@ impl Life {
     }
 
     /// A step, or a cut: in most lives rare, but often in an erase that comes
-    /// before a first page.
+    /// before a first page and in a flush.
     fn go_on(&self, random: &mut Random, state: &State, formatting: bool) -> Action {
+        let flush = state.pending == Some(Pending::Flush);
         let erase_due = reader::erase_due(&self.medium, state).is_some();
         let times = match self.habits.cut_one_in {
             _ if formatting => 200,
-            times if erase_due => times.min(4),
+            times if erase_due || flush => times.min(4),
             times => times,
         };
         if !random.one_in(times) {
@@ -287,6 +304,12 @@ impl Life {
 
     /// An operation that would be begun with nothing pending.
     fn begin(&self, random: &mut Random, state: &State) -> Action {
+        if !self.buffer_is_empty() && !random.one_in(8) {
+            return if random.one_in(3) { Action::Flush } else { self.some_small_group(random) };
+        }
+        if random.one_in(self.habits.gather_one_in) && !random.one_in(4) {
+            return self.some_small_group(random);
+        }
         match random.below(8) {
             0 => Action::Commit,
             1 | 2 => self.picked(random, state),
@@ -304,7 +327,7 @@ impl Life {
     /// Any call with any arguments, fitting or not. During formatting a
     /// recovery would end the formatting, so it is rare.
     fn any_call(&self, random: &mut Random, state: &State) -> Action {
-        match random.below(13) {
+        match random.below(17) {
             0 => self.some_append(random, 0, GROUP_ENTRIES + 2),
             1 => self.spoilt_append(random),
             2 => Action::Commit,
@@ -313,18 +336,23 @@ impl Life {
             5 => Action::Step,
             6 if self.history.is_some() || random.one_in(5) => Action::Recover,
             7 if self.history.is_some() || random.one_in(5) => Action::Cut,
+            8 => buffered(self.some_append(random, 0, GROUP_ENTRIES + 2)),
+            9 => buffered(self.spoilt_append(random)),
+            10 => Action::Flush,
             _ => Action::Read(self.some_reading(random)),
         }
     }
 
     fn some_reading(&self, random: &mut Random) -> Reading {
-        match random.below(7) {
+        match random.below(9) {
             0 => Reading::Pick,
             1 => Reading::Survey,
             2 => Reading::Log { keys: random.below(300), words: random.below(300) },
             3 => Reading::Log { keys: 5000, words: 5000 },
             4 => Reading::Available,
             5 => Reading::Open { valve: random.bits() as u16 },
+            6 => Reading::Word { valve: random.bits() as u16 },
+            7 => Reading::Word { valve: random.below(self.habits.valves) as u16 },
             _ => Reading::Open { valve: random.below(self.habits.valves) as u16 },
         }
     }
@@ -337,22 +365,25 @@ impl Life {
             1 => random.from_to(least, most),
             _ => random.from_to(1, 30),
         };
-        let (mut keys, mut words) = (Vec::with_capacity(length), Vec::with_capacity(length));
-        for _ in 0..length {
-            let entry = self.some_entry(random);
-            keys.push(entry.key);
-            words.push(entry.word);
-        }
+        let (keys, words) = self.some_entries(random, length);
         Action::Append { keys, words }
     }
 
-    fn some_entry(&self, random: &mut Random) -> Entry {
-        let valve = random.below(self.habits.valves) as u16;
-        if random.one_in(self.habits.removal_one_in) {
-            Entry { key: valve + REMOVAL, word: 0 }
-        } else {
-            Entry { key: valve, word: random.word() }
-        }
+    /// A group for the buffer, mostly one that has its place there.
+    fn some_small_group(&self, random: &mut Random) -> Action {
+        let length = match random.below(8) {
+            0 => random.from_to(1, BUFFER_ENTRIES + 2),
+            1 => random.from_to(1, 8),
+            _ => random.from_to(1, 3),
+        };
+        let (keys, words) = self.some_entries(random, length);
+        Action::Buffer { keys, words }
+    }
+
+    fn some_entries(&self, random: &mut Random, length: usize) -> (Vec<u16>, Vec<u64>) {
+        let Habits { valves, removal_one_in, .. } = self.habits;
+        let entries = (0..length).map(|_| some_entry(random, valves, removal_one_in));
+        entries.map(|entry| (entry.key, entry.word)).unzip()
     }
 
     /// An append with lists that differ, or a removal with a word.
@@ -382,16 +413,19 @@ impl Life {
             Action::Step => self.step(),
             Action::Append { keys, words } => {
                 let event = Event::Append { keys, words };
-                self.call(event, |medium, state| writer::append(medium, state, keys, words))
+                self.call(event, |m, s, b| writer::append(m, s, b, keys, words))
             }
-            Action::Commit => self.call(Event::Commit, writer::commit),
+            Action::Commit => self.call(Event::Commit, |m, s, b| writer::commit(m, s, b)),
             Action::Collect { block } => {
                 let event = Event::Collect { block: *block };
-                self.call(event, |medium, state| writer::collect(medium, state, *block))
+                self.call(event, |m, s, b| writer::collect(m, s, b, *block))
             }
-            Action::Read(reading) => {
-                self.call(Event::Reading, |medium, state| read(medium, state, *reading))
+            Action::Buffer { keys, words } => {
+                let event = Event::Buffer { keys, words };
+                self.call(event, |m, s, b| writer::buffer(m, s, b, keys, words))
             }
+            Action::Flush => self.call(Event::Flush, |m, s, b| writer::flush(m, s, b)),
+            Action::Read(reading) => self.call(Event::Reading, |m, s, b| read(m, s, b, *reading)),
         }
     }
 
@@ -405,10 +439,10 @@ impl Life {
     fn call(
         &mut self,
         event: Event,
-        call: impl FnOnce(&[u8], &mut State) -> Result<(), Refused>,
+        call: impl FnOnce(&[u8], &mut State, &mut [u8]) -> Result<(), Refused>,
     ) -> Outcome {
         let Some(state) = &mut self.state else { return Outcome::Refused(0) };
-        let result = call(&self.medium, state);
+        let result = call(&self.medium, state, &mut self.buffer);
         self.settle(result, event)
     }
 
@@ -443,6 +477,7 @@ impl Life {
         match reader::recover(&self.medium) {
             Ok(state) => {
                 self.state = Some(state);
+                self.buffer.fill(0xFF);
                 self.feed(Event::Recovery);
                 Outcome::Accepted
             }
@@ -456,7 +491,7 @@ impl Life {
     fn step(&mut self) -> Outcome {
         let Some(state) = &mut self.state else { return Outcome::Refused(0) };
         let formatting = matches!(state.pending, Some(Pending::Format { .. }));
-        match writer::step(&mut self.medium, state) {
+        match writer::step(&mut self.medium, state, &mut self.buffer) {
             Ok(step) => {
                 self.stepped(step, formatting);
                 Outcome::Stepped(step)
@@ -471,6 +506,7 @@ impl Life {
         self.touch(step.touched, false);
         if formatting && step.finished {
             self.history = Some(History::new());
+            self.buffer.fill(0xFF);
         } else {
             self.feed(match step.touched {
                 Touched::Page(_) => Event::StepOnPage,
@@ -493,6 +529,7 @@ impl Life {
 
     fn cut_between(&mut self) -> Outcome {
         self.state = None;
+        self.buffer.fill(0xFF);
         self.feed(Event::Cut { complete: false });
         Outcome::Cut { struck: None, complete: false }
     }
@@ -501,7 +538,10 @@ impl Life {
     fn cut_inside(&mut self, mask: &[u8]) -> Outcome {
         let Some(mut state) = self.state.take() else { return self.cut_between() };
         let mut after = self.medium.clone();
-        let Ok(step) = writer::step(&mut after, &mut state) else { return self.cut_between() };
+        let Ok(step) = writer::step(&mut after, &mut state, &mut self.buffer) else {
+            return self.cut_between();
+        };
+        self.buffer.fill(0xFF);
         self.touch(step.touched, true);
         let complete = cut_step(&mut self.medium, &after, &step.touched, mask);
         self.feed(Event::Cut { complete });
@@ -509,10 +549,29 @@ impl Life {
     }
 }
 
+/// An entry of a valve below `valves`; one in so many is a removal.
+fn some_entry(random: &mut Random, valves: usize, removal_one_in: usize) -> Entry {
+    let valve = random.below(valves) as u16;
+    if random.one_in(removal_one_in) {
+        Entry { key: valve + REMOVAL, word: 0 }
+    } else {
+        Entry { key: valve, word: random.word() }
+    }
+}
+
+/// The same group, put into the buffer.
+fn buffered(action: Action) -> Action {
+    match action {
+        Action::Append { keys, words } => Action::Buffer { keys, words },
+        other => other,
+    }
+}
+
 /// A reading; what it hands back is let go.
-fn read(medium: &[u8], state: &State, reading: Reading) -> Result<(), Refused> {
+fn read(medium: &[u8], state: &State, buffer: &[u8], reading: Reading) -> Result<(), Refused> {
     match reading {
         Reading::Open { valve } => reader::open(medium, state, valve).map(drop),
+        Reading::Word { valve } => reader::word_at(medium, state, buffer, valve).map(drop),
         Reading::Pick => reader::pick(medium, state).map(drop),
         Reading::Survey => reader::survey(medium, state).map(drop),
         Reading::Available => reader::count_available(medium, state).map(drop),
@@ -614,13 +673,14 @@ pub fn resealed_change(random: &mut Random, medium: &mut [u8]) {
     let mut bytes = [0; PAGE_BYTES];
     bytes.copy_from_slice(reader::page(medium, page));
     let place = random.below(PAGE_ENTRIES);
-    match random.below(8) {
-        0 => bytes[2] = random.below(5) as u8,
+    match random.below(9) {
+        0 => bytes[2] = random.below(6) as u8,
         1 | 2 => bytes[3] = random.below(5) as u8,
         3 => bytes[4] = random.below(27) as u8,
         4 => bytes[8] = bytes[8].wrapping_add(random.below(5) as u8).wrapping_sub(2),
         5 => bytes[16 + 2 * place] = random.bits() as u8,
         6 => bytes[17 + 2 * place] ^= 0x80,
+        7 => bytes[6 + random.below(2)] ^= 1 << random.below(8),
         _ => bytes[64 + 8 * place] = random.bits() as u8,
     }
     seal(&mut bytes);
@@ -680,6 +740,14 @@ impl Sketch {
         let page = self.free.pop().unwrap_or(0);
         put_page(&mut self.medium, page, bytes);
         page
+    }
+
+    /// Adds a page of kind 4 with the next serial.
+    pub fn add_gathered(&mut self, groups: &[&[Entry]]) {
+        let bytes = lay_gathered(self.serial, groups);
+        self.serial += 1;
+        let page = self.add_bytes(&bytes);
+        self.note_nodes(page, &groups.concat());
     }
 
     fn note_nodes(&mut self, page: usize, entries: &[Entry]) {
@@ -747,7 +815,7 @@ fn sketch_more(random: &mut Random, sketch: &mut Sketch) {
     let length = random.from_to(1, GROUP_ENTRIES);
     let group: Vec<Entry> = (0..length).map(|_| setting(random.below(150) as u16)).collect();
     let full = full_page();
-    match random.below(40) {
+    match random.below(48) {
         0..=14 => sketch.add_group(NODES, &group),
         15..=20 => {
             sketch.add(MOVED, 3, &group[..length.min(PAGE_ENTRIES)]);
@@ -771,7 +839,12 @@ fn sketch_more(random: &mut Random, sketch: &mut Sketch) {
         38 => {
             sketch.add(NODES, 3, &[Entry { key: 7 + REMOVAL, word: 0 }]);
         }
-        _ => wipe_page(random, &mut sketch.medium),
+        39 => wipe_page(random, &mut sketch.medium),
+        _ => {
+            let group = &group[..length.min(BUFFER_ENTRIES)];
+            let groups: Vec<&[Entry]> = group.chunks(random.from_to(1, 5)).collect();
+            sketch.add_gathered(&groups);
+        }
     }
 }
 
@@ -784,9 +857,9 @@ pub fn ways(number: u8) -> usize {
         1 => LENGTHS.len(),
         2 => BREAKS.len() + 2,
         3 => 3,
-        4 => 7,
-        5 => 9,
-        6 => 17,
+        4 => 8,
+        5 => 11,
+        6 => 20,
         _ => 0,
     }
 }
@@ -821,11 +894,13 @@ const REMOVED: Entry = Entry { key: 5 + REMOVAL, word: 0 };
 const REMOVED_WITH_WORD: Entry = Entry { key: 5 + REMOVAL, word: 1 };
 const FULL: [Entry; PAGE_ENTRIES] = [SET; PAGE_ENTRIES];
 const ALMOST: [Entry; PAGE_ENTRIES - 1] = [SET; PAGE_ENTRIES - 1];
+const SIXTEEN: [Entry; BUFFER_ENTRIES] = [SET; BUFFER_ENTRIES];
+const SEVENTEEN: [Entry; BUFFER_ENTRIES + 1] = [SET; BUFFER_ENTRIES + 1];
 
-const BREAKS: [Break; 33] = [
+const BREAKS: [Break; 52] = [
     // The kind.
     (0, 3, 1, &[SET], None),
-    (4, 3, 1, &[SET], None),
+    (5, 3, 1, &[SET], None),
     (9, 3, 1, &[SET], None),
     (255, 3, 1, &[SET], None),
     // The flags, and those that moved nodes may not carry.
@@ -862,6 +937,27 @@ const BREAKS: [Break; 33] = [
     (MOVED, 3, 1, &[REMOVED], None),
     (NODES, 3, 1, &[REMOVED_WITH_WORD], None),
     (NODES, 3, 2, &[SET, REMOVED_WITH_WORD], None),
+    // Kind 4: the flags, n, the bits that say where groups end, unused places
+    // and keys.
+    (GATHERED, 0, 16, &SIXTEEN, None),
+    (GATHERED, 1, 16, &SIXTEEN, None),
+    (GATHERED, 2, 1, &[SET], None),
+    (GATHERED, 7, 1, &[SET], None),
+    (GATHERED, 0, 24, &FULL, None),
+    (GATHERED, 3, 0, &[], None),
+    (GATHERED, 3, 17, &SEVENTEEN, None),
+    (GATHERED, 3, 24, &FULL, None),
+    (GATHERED, 3, 1, &[SET], Some((5, 1))),
+    (GATHERED, 3, 1, &[SET], Some((6, 0xFE))),
+    (GATHERED, 3, 2, &[SET, SET], Some((6, 0xFD))),
+    (GATHERED, 3, 2, &[SET, SET], Some((6, 0xFB))),
+    (GATHERED, 3, 2, &[SET, SET], Some((7, 0x7F))),
+    (GATHERED, 3, 16, &SIXTEEN, Some((7, 0x7F))),
+    (GATHERED, 3, 1, &[SET], Some((18, 0))),
+    (GATHERED, 3, 16, &SIXTEEN, Some((48, 0xFE))),
+    (GATHERED, 3, 16, &SIXTEEN, Some((192, 0))),
+    (GATHERED, 3, 1, &[SET, SET], None),
+    (GATHERED, 3, 2, &[SET, REMOVED_WITH_WORD], None),
 ];
 
 /// The page of a break, whole.
@@ -938,9 +1034,14 @@ fn refused_4(random: &mut Random, way: usize) -> Vec<u8> {
             sketch.add(BASE, 2, &full);
         }
         // A page of another kind is between.
-        _ => {
+        6 => {
             sketch.add(BASE, 1, &full);
             sketch.add(NODES, 3, &full);
+            sketch.add(BASE, 2, &full);
+        }
+        _ => {
+            sketch.add(BASE, 1, &full);
+            sketch.add_gathered(&[&[SET]]);
             sketch.add(BASE, 2, &full);
         }
     }
@@ -1002,8 +1103,19 @@ fn refused_5(random: &mut Random, way: usize) -> Vec<u8> {
             sketch.add(MOVED, 3, &[SET]);
             sketch.add(NODES, 2, &full);
         }
+        // A page of kind 4 has closed it, or stands behind a gap.
+        7 => {
+            sketch.add(NODES, 1, &full);
+            sketch.add_gathered(&[&[SET], &[SET]]);
+            sketch.add(NODES, 2, &full);
+        }
+        8 => {
+            sketch.add_gathered(&[&[SET]]);
+            sketch.serial += 1;
+            sketch.add_gathered(&[&[SET]]);
+        }
         // A fifth page, ending its group or not.
-        7 => sketch.add_group(NODES, &[SET; GROUP_ENTRIES + 1]),
+        9 => sketch.add_group(NODES, &[SET; GROUP_ENTRIES + 1]),
         _ => {
             sketch.add(NODES, 1, &full);
             for _ in 0..4 {
@@ -1019,7 +1131,7 @@ fn refused_6(random: &mut Random, way: usize) -> Vec<u8> {
     let mut sketch = Sketch::new(random);
     match way {
         0..=3 => base_not_rising(&mut sketch, way),
-        4..=8 => too_many_valves(&mut sketch, way),
+        4..=10 => too_many_valves(&mut sketch, way),
         _ => stray_address(random, &mut sketch, way),
     }
     sketch.medium
@@ -1038,7 +1150,8 @@ fn base_not_rising(sketch: &mut Sketch, way: usize) {
     sketch.add_group(BASE, &places);
 }
 
-/// A 193rd valve: in the base, by an append, for a while, or by moved nodes.
+/// A 193rd valve: in the base, by an append, for a while, by moved nodes, or by
+/// groups on one page.
 fn too_many_valves(sketch: &mut Sketch, way: usize) {
     let extra = setting(300);
     sketch.add_nodes(0, MAX_VALVES + usize::from(way == 4));
@@ -1054,6 +1167,8 @@ fn too_many_valves(sketch: &mut Sketch, way: usize) {
         7 => {
             sketch.add(MOVED, 3, &[extra]);
         }
+        8 => sketch.add_gathered(&[&[SET], &[extra]]),
+        9 => sketch.add_gathered(&[&[extra], &[REMOVED]]),
         _ => {
             sketch.add(NODES, 3, &[REMOVED, extra]);
             sketch.add(NODES, 3, &[SET]);
@@ -1068,18 +1183,23 @@ fn stray_address(random: &mut Random, sketch: &mut Sketch, way: usize) {
     // Where the base will stand, and a page that will stay clean.
     let (base, clean) = (sketch.free[sketch.free.len() - 1], sketch.free[0]);
     let address = match way {
-        9 => reader::address(base, 0),
-        10 => end,
-        11 => u64::MAX,
-        12 => reader::address(clean, random.below(PAGE_ENTRIES)),
+        11 => reader::address(base, 0),
+        12 => end,
+        13 => u64::MAX,
+        14 => reader::address(clean, random.below(PAGE_ENTRIES)),
         // Another valve, a removal, a place not used.
-        13 => reader::address(nodes, 0),
-        14 => reader::address(nodes, 2),
-        15 => reader::address(nodes, random.from_to(3, 23)),
+        15 => reader::address(nodes, 0),
+        16 => reader::address(nodes, 2),
+        17 => reader::address(nodes, random.from_to(3, 23)),
+        // On a page of kind 4, likewise.
+        18 => {
+            sketch.add_gathered(&[&[setting(4)], &[SET, REMOVED]]);
+            reader::address(base, random.one_of(&[0, 2, 3, 15, 16, 23]))
+        }
         _ => reader::address(nodes, 1),
     };
     sketch.add_group(BASE, &[Entry { key: 5, word: address }]);
-    if way > 15 {
+    if way > 18 {
         // The node was there, but its page is spoilt.
         sketch.medium[nodes * PAGE_BYTES + 64] ^= 1;
     }
@@ -1091,7 +1211,7 @@ fn stray_address(random: &mut Random, sketch: &mut Sketch, way: usize) {
 /// Changes one thing about a state, so that it is unfit or only odd.
 pub fn damage_state(random: &mut Random, state: &mut State) {
     let blocks = state.blocks;
-    match random.below(13) {
+    match random.below(14) {
         0 => state.blocks = random.from_to(MIN_BLOCKS, MAX_BLOCKS),
         1 => state.head = random.below(blocks + 2),
         2 => state.next_page = random.below(BLOCK_PAGES + 2),
@@ -1104,6 +1224,7 @@ pub fn damage_state(random: &mut Random, state: &mut State) {
         9 => state.pending = Some(Pending::Collect { block: random.below(blocks + 1) }),
         10 => state.pending = Some(Pending::Format { erased: random.below(blocks + 2) }),
         11 => state.erased = some_records(random),
+        12 => state.pending = Some(Pending::Flush),
         _ => state.pending = Some(some_pending_append(random)),
     }
 }
@@ -1146,4 +1267,62 @@ fn some_pending_append(random: &mut Random) -> Pending {
     }
     let written = (0..random.below(5)).map(|_| random.below(256) as u32).collect();
     Pending::Append { entries, written }
+}
+
+// ---------------------------------------------------------------------------
+// Buffers for 7
+
+/// A buffer that may be lent: empty, with groups, or unfit by little or by all.
+pub fn some_buffer(random: &mut Random) -> Vec<u8> {
+    let mut buffer = vec![0xFF; PAGE_BYTES];
+    if random.one_in(2) {
+        return buffer;
+    }
+    gather_some(random, &mut buffer);
+    match random.below(3) {
+        0 => damage_buffer(random, &mut buffer),
+        1 if random.one_in(2) => any_buffer(random, &mut buffer),
+        _ => {}
+    }
+    buffer
+}
+
+/// Puts groups into an empty buffer.
+fn gather_some(random: &mut Random, buffer: &mut [u8]) {
+    let (valves, mut held) = (random.one_of(&[4, 200, 32768]), 0);
+    for _ in 0..random.from_to(1, 6) {
+        let length = random.from_to(1, 5).min(BUFFER_ENTRIES - held);
+        let group: Vec<Entry> = (0..length).map(|_| some_entry(random, valves, 4)).collect();
+        writer::gather(buffer, held, &group);
+        held += length;
+    }
+}
+
+/// Changes one thing about a page in the making, so that it is unfit or not.
+fn damage_buffer(random: &mut Random, buffer: &mut Vec<u8>) {
+    let place = random.below(PAGE_ENTRIES);
+    match random.below(13) {
+        0 => buffer.resize(random.one_of(&[0, 1, 255, 257, 511, 512]), 0xFF),
+        1 => buffer[2] = random.below(6) as u8,
+        2 => buffer[3] = random.below(5) as u8,
+        3 => buffer[4] = random.below(26) as u8,
+        4 => buffer[5] = random.one_of(&[0, 1, 0xFF]),
+        5 | 6 => buffer[6 + random.below(2)] ^= 1 << random.below(8),
+        7 => buffer[random.one_of(&[0, 1, 8, 15])] = random.bits() as u8,
+        8 => *buffer = writer::stamped(buffer, random.bits()).to_vec(),
+        9 => buffer[17 + 2 * place] ^= 0x80,
+        10 => buffer[64 + 8 * place] ^= 1 << random.below(8),
+        // More than sixteen entries, each a group.
+        11 => (0..random.from_to(17, 24)).for_each(|held| writer::gather(buffer, held, &[SET])),
+        _ => flip_bits(random, buffer, 1),
+    }
+}
+
+/// Bytes of any length to 512 and of any content, or all of one value.
+fn any_buffer(random: &mut Random, buffer: &mut Vec<u8>) {
+    let length = if random.one_in(2) { PAGE_BYTES } else { random.below(513) };
+    *buffer = vec![random.one_of(&[0, 0xFF]); length];
+    if random.one_in(2) {
+        random.fill(buffer);
+    }
 }

@@ -4,9 +4,9 @@
 mod common;
 
 use common::*;
-use journal_tests::random::{self, damage, damage_state, Random};
+use journal_tests::random::{self, damage, damage_state, some_buffer, Random};
 use journal_tests::reader::*;
-use journal_tests::writer::{self, State, Touched};
+use journal_tests::writer::{self, Pending, State, Touched};
 
 /// Bits counted one by one, by the document's words.
 fn plain_class(bytes: &[u8]) -> Class {
@@ -70,10 +70,11 @@ fn sketched_media_have_every_answer() {
     assert!([0, 3, 4, 5, 6].iter().all(|&number| answers[number] > 0));
 }
 
-/// Makes every call on a medium and a state that may be anything. Hands back
-/// the numbers of the refusals.
+/// Makes every call on a medium, a state and a buffer that may be anything.
+/// Hands back the numbers of the refusals.
 fn all_calls(random: &mut Random, medium: &[u8], state: &State) -> Vec<u8> {
-    let block = random.below(18);
+    let (block, buffer) = (random.below(18), some_buffer(random));
+    let (keys, words) = lists(&valves(0, random.one_of(&[1, 2, 16, 30])));
     let mut numbers = Vec::new();
     let mut note = |result: Result<(), Refused>| {
         numbers.extend(result.err().map(|Refused(number)| number));
@@ -81,11 +82,44 @@ fn all_calls(random: &mut Random, medium: &[u8], state: &State) -> Vec<u8> {
     note(open(medium, state, random.below(60) as u16).map(drop));
     note(pick(medium, state).map(drop));
     note(survey(medium, state).map(drop));
-    note(begun(state, |state| begin_append(medium, state, &valves(0, 30))));
-    note(begun(state, |state| writer::commit(medium, state)));
-    note(begun(state, |state| writer::collect(medium, state, block)));
-    note(stepped(medium, state));
+    note(word_at(medium, state, &buffer, random.below(60) as u16).map(drop));
+    note(begun(state, |state| writer::append(medium, state, &buffer, &keys, &words)));
+    note(begun(state, |state| writer::commit(medium, state, &buffer)));
+    note(begun(state, |state| writer::collect(medium, state, &buffer, block)));
+    note(begun(state, |state| writer::flush(medium, state, &buffer)));
+    note(buffered_group(medium, state, &buffer, &keys, &words));
+    note(stepped(medium, state, &buffer));
     numbers
+}
+
+/// A group put into the buffer is the last one there, behind those that were;
+/// a refusal leaves the buffer.
+fn buffered_group(
+    medium: &[u8],
+    state: &State,
+    buffer: &[u8],
+    keys: &[u16],
+    words: &[u64],
+) -> Result<(), Refused> {
+    let mut lent = buffer.to_vec();
+    let result = writer::buffer(medium, state, &mut lent, keys, words);
+    if result.is_err() {
+        assert!(lent == buffer);
+        return result;
+    }
+    let mut groups = groups_in(buffer);
+    groups.push(entries_of(keys, words));
+    assert_eq!(groups_in(&lent), groups);
+    assert_eq!(buffered(&lent), Some(groups.concat()));
+    Ok(())
+}
+
+/// The groups in a fit buffer.
+fn groups_in(buffer: &[u8]) -> Vec<Vec<Entry>> {
+    match Page::from_bytes(buffer) {
+        Some(page) if buffer != EMPTY => page.groups(),
+        _ => Vec::new(),
+    }
 }
 
 /// A call that begins something alters the state only if it is accepted, and
@@ -102,10 +136,13 @@ fn begun(
     result
 }
 
-/// A step alters what it says it touched and nothing else.
-fn stepped(medium: &[u8], state: &State) -> Result<(), Refused> {
-    let (mut lent, mut given) = (medium.to_vec(), state.clone());
-    let result = writer::step(&mut lent, &mut given);
+/// A step alters what it says it touched and nothing else; of the buffer
+/// nothing, save that a flush's last leaves it empty.
+fn stepped(medium: &[u8], state: &State, buffer: &[u8]) -> Result<(), Refused> {
+    let (mut lent, mut given, mut lent_buffer) = (medium.to_vec(), state.clone(), buffer.to_vec());
+    let result = writer::step(&mut lent, &mut given, &mut lent_buffer);
+    let flushed = result.is_ok_and(|step| step.finished) && state.pending == Some(Pending::Flush);
+    assert!(lent_buffer == if flushed { &EMPTY[..] } else { buffer });
     let touched = match result.map(|step| step.touched) {
         Ok(Touched::Page(page)) => page * PAGE_BYTES..(page + 1) * PAGE_BYTES,
         Ok(Touched::Block(block)) => block * BLOCK_BYTES..(block + 1) * BLOCK_BYTES,
@@ -125,7 +162,7 @@ fn stepped(medium: &[u8], state: &State) -> Result<(), Refused> {
 #[test]
 fn any_medium_and_any_state() {
     let mut random = Random::new(14);
-    let mut seen = [0; 19];
+    let mut seen = [0; 25];
     for _ in 0..400 {
         let events = random.from_to(10, 200);
         let life = random::lived(&mut random, events);
@@ -144,7 +181,7 @@ fn any_medium_and_any_state() {
         }
     }
     println!("refusals by number: {seen:?}");
-    for number in [1, 6, 7, 8, 9, 12, 13, 14, 15, 16, 18] {
+    for number in [1, 6, 7, 8, 9, 10, 12, 13, 14, 15, 16, 18, 23, 24] {
         assert!(seen[number] > 0, "never: {number}");
     }
 }

@@ -44,11 +44,11 @@ fn records_are_set_by_erases_and_unset_by_recovery_and_format() {
     assert_eq!(recorded(&recover(&medium).expect("recovery")), []);
     let mut state = writer::format(&medium).expect("format");
     assert_eq!(recorded(&state), []);
-    writer::step(&mut medium.clone(), &mut state).expect("erase");
+    one_step(&mut medium.clone(), &mut state).expect("erase");
     assert_eq!(recorded(&state), [0]);
 
     let (mut medium, mut state) = collectible_block_0();
-    writer::collect(&medium, &mut state, 0).expect("collect");
+    begin_collect(&medium, &mut state, 0).expect("collect");
     let steps = finish(&mut medium, &mut state);
     let expected = [Touched::Block(2), Touched::Page(32), Touched::Block(0)];
     assert_eq!(touched(&steps), expected);
@@ -61,7 +61,7 @@ fn the_erase_sets_its_record_and_nothing_else() {
     begin_append(&medium, &mut state, &valves(0, 30)).expect("append");
     assert_eq!(available(&medium, &state), 48);
     let (lent, mut given) = (medium.clone(), state.clone());
-    assert_eq!(writer::step(&mut medium, &mut state), step_block(1));
+    assert_eq!(one_step(&mut medium, &mut state), step_block(1));
     given.erased[1] = true;
     assert_eq!((&medium, &state), (&lent, &given));
     let rest = finish(&mut medium, &mut state);
@@ -71,24 +71,24 @@ fn the_erase_sets_its_record_and_nothing_else() {
 #[test]
 fn neither_6_nor_14_nor_16_is_tested_at_the_erase() {
     let (mut medium, mut state) = collectible_block_0();
-    writer::collect(&medium, &mut state, 0).expect("collect");
+    begin_collect(&medium, &mut state, 0).expect("collect");
     // The node to move is spoilt, and no serial is left.
     medium[15 * PAGE_BYTES + 64] ^= 1;
     state.next_serial = u64::MAX;
-    assert_eq!(writer::step(&mut medium.clone(), &mut state.clone()), step_block(2));
+    assert_eq!(one_step(&mut medium.clone(), &mut state.clone()), step_block(2));
     // With no wholly clean block the step would program.
     let mut full = medium.clone();
     full[2 * BLOCK_BYTES] = 0;
     full[3 * BLOCK_BYTES] = 0;
-    assert_eq!(writer::step(&mut full, &mut state.clone()), refused(6));
+    assert_eq!(one_step(&mut full, &mut state.clone()), refused(6));
     full[15 * PAGE_BYTES + 64] ^= 1;
-    assert_eq!(writer::step(&mut full, &mut state.clone()), refused(14));
+    assert_eq!(one_step(&mut full, &mut state.clone()), refused(14));
     state.next_serial = 99;
-    assert_eq!(writer::step(&mut full, &mut state.clone()), refused(16));
+    assert_eq!(one_step(&mut full, &mut state.clone()), refused(16));
     // The first wholly clean block is the one erased.
     medium[2 * BLOCK_BYTES] = 0;
-    assert_eq!(writer::step(&mut medium, &mut state), step_block(3));
-    assert_eq!(writer::step(&mut medium, &mut state), refused(6));
+    assert_eq!(one_step(&mut medium, &mut state), step_block(3));
+    assert_eq!(one_step(&mut medium, &mut state), refused(6));
 }
 
 #[test]
@@ -113,7 +113,7 @@ fn formatting_takes_any_records_and_adds_no_erase() {
         let pending = Some(Pending::Format { erased: 4 });
         let mut state = State { pending, erased, ..State::at_format(4) };
         let last = Step { touched: Touched::Page(0), finished: true };
-        assert_eq!(writer::step(&mut medium, &mut state), Ok(last));
+        assert_eq!(one_step(&mut medium, &mut state), Ok(last));
         assert_eq!(state.erased, erased);
     }
 }
@@ -122,7 +122,7 @@ fn formatting_takes_any_records_and_adds_no_erase() {
 fn a_collection_without_live_nodes_is_one_erase() {
     let (mut medium, mut state) = recovered();
     medium[3 * BLOCK_BYTES] = 0;
-    writer::collect(&medium, &mut state, 3).expect("collect");
+    begin_collect(&medium, &mut state, 3).expect("collect");
     let steps = finish(&mut medium, &mut state);
     assert_eq!(touched(&steps), [Touched::Block(3)]);
     assert_eq!(recorded(&state), [3]);
@@ -136,7 +136,7 @@ fn a_cut_in_the_erase_alters_nothing() {
     for _ in 0..20 {
         begin_append(&medium, &mut state, &[(6, 1)]).expect("append");
         let (before, mut after) = (medium.clone(), medium.clone());
-        let step = writer::step(&mut after, &mut state).expect("a step");
+        let step = one_step(&mut after, &mut state).expect("a step");
         let mut mask = [0; BLOCK_BYTES];
         random.fill(&mut mask);
         assert!(!cut_step(&mut medium, &after, &step.touched, &mask));

@@ -119,7 +119,7 @@ fn lengths() {
 fn cut_after_the_first_page_of_thirty_entries() {
     let (mut medium, mut state) = formatted(4);
     begin_append(&medium, &mut state, &valves(0, 30)).expect("append");
-    writer::step(&mut medium, &mut state).expect("first page");
+    one_step(&mut medium, &mut state).expect("first page");
     let replay = replay(&medium).expect("recovery");
     assert!(replay.log().is_empty());
     let mut state = replay.state;
@@ -172,14 +172,14 @@ fn format_needs_only_page_0_clean() {
     let mut medium = blank(4);
     let mut state = writer::format(&medium).expect("format");
     for _ in 0..4 {
-        writer::step(&mut medium, &mut state).expect("erase");
+        one_step(&mut medium, &mut state).expect("erase");
     }
     medium[300] = 0;
     let mut other = medium.clone();
     let mut other_state = state.clone();
-    assert!(writer::step(&mut medium, &mut state).expect("base").finished);
+    assert!(one_step(&mut medium, &mut state).expect("base").finished);
     other[255] = 0;
-    assert_eq!(writer::step(&mut other, &mut other_state), refused(16));
+    assert_eq!(one_step(&mut other, &mut other_state), refused(16));
 }
 
 #[test]
@@ -195,7 +195,7 @@ fn collection_moves_in_address_order_and_erases() {
     assert_eq!(pick(&medium, &state), Ok(None));
     commit(&mut medium, &mut state);
     assert_eq!(pick(&medium, &state), Ok(Some(0)));
-    writer::collect(&medium, &mut state, 0).expect("collect");
+    begin_collect(&medium, &mut state, 0).expect("collect");
     let steps = finish(&mut medium, &mut state);
     assert_eq!(touched(&steps), [Touched::Page(17), Touched::Block(0)]);
     let moved = Page::of(&medium, 17).expect("page 17");

@@ -4,7 +4,8 @@
 mod common;
 
 use common::*;
-use journal_tests::random::{Life, Random};
+use journal_tests::history::History;
+use journal_tests::random::{self, Life, Random};
 use journal_tests::reader::*;
 use journal_tests::writer::State;
 use std::collections::BTreeMap;
@@ -17,6 +18,25 @@ fn check(life: &Life) {
     assert_eq!(replay.settings(), history.settings());
     if let Some(state) = &life.state {
         check_state_kept(&life.medium, state, &replay.state);
+        check_buffer(life, state, history);
+    }
+}
+
+/// The buffer holds the history's buffered groups, and each valve that the
+/// index or the buffer names has the word of the settings with these laid on.
+fn check_buffer(life: &Life, state: &State, history: &History) {
+    let (medium, buffer) = (&life.medium, &life.buffer);
+    let entries = check_lent(medium, state, buffer).expect("a fit state and buffer");
+    assert_eq!(entries, history.buffered().concat());
+    if !entries.is_empty() {
+        let page = Page::from_bytes(buffer).expect("a page");
+        assert_eq!(page.groups(), history.buffered());
+    }
+    let settings = history.with_buffered();
+    let named = entries.iter().map(|entry| entry.valve());
+    for valve in named.chain(state.index.iter().map(|place| place.valve)).take(40) {
+        let word = word_at(medium, state, buffer, valve).map(|at| at.read(medium, buffer));
+        assert_eq!(word, settings.get(&valve).copied().ok_or(Refused(18)));
     }
 }
 
@@ -51,11 +71,14 @@ fn run(seed: u64, lives: usize, events: usize) -> BTreeMap<String, usize> {
     happened
 }
 
-/// Erases before a first page, made and cut.
-const ERASES: [&str; 3] = [
-    "erase before a page",
-    "erase before a page, the block being weak",
-    "cut inside the erase before a page",
+/// What must happen often: erases before a first page, made and cut; flushes,
+/// made and cut both ways; and refusals for what the buffer holds.
+#[rustfmt::skip]
+const OFTEN: [&str; 12] = [
+    "erase before a page", "erase before a page, the block being weak",
+    "cut inside the erase before a page", "buffer", "flush", "flush finished",
+    "cut inside flush", "cut inside flush, complete", "buffer refused 23",
+    "append refused 24", "commit refused 24", "collect refused 24",
 ];
 
 #[test]
@@ -72,15 +95,40 @@ fn log_and_settings_are_the_history() {
         "append refused 12", "append refused 13", "commit refused 8",
         "commit refused 13", "collect refused 8", "collect refused 13",
         "collect refused 15", "step refused 9", "read refused 17", "read refused 18",
+        "buffer refused 8", "buffer refused 10", "buffer refused 11", "buffer refused 12",
+        "buffer refused 13", "flush refused 8", "flush refused 10",
     ];
     for name in all {
         assert!(happened.contains_key(name), "never: {name}");
     }
-    for name in ERASES {
-        assert!(happened.get(name).is_some_and(|&times| times >= 200), "rare: {name}");
+    for name in OFTEN {
+        assert!(happened.get(name).is_some_and(|&times| times >= 100), "rare: {name}");
     }
-    assert!(!happened.contains_key("step refused 16"));
-    assert!(!happened.contains_key("step refused 7"));
+    // A step that is due can be made, and what is buffered can be flushed.
+    for name in happened.keys() {
+        let refused = name.contains("step refused") || name.contains("flush refused");
+        let allowed = ["step refused 9", "flush refused 8", "flush refused 10"];
+        assert!(!refused || allowed.contains(&name.as_str()), "{name}");
+    }
+}
+
+/// A reader by document 01 answers 2 to a whole page of kind 4, and reads
+/// every other medium as before.
+#[test]
+fn older_readers_meet_kind_4() {
+    let mut random = Random::new(31);
+    let mut met = [0, 0];
+    for events in 0..600 {
+        let medium = random::lived(&mut random, events).medium;
+        let gathered = |p: Page| p.class() == Class::Whole && p.kind() == GATHERED;
+        let holds = medium.chunks(PAGE_BYTES).filter_map(Page::from_bytes).any(gathered);
+        let (old, new) = (replay_by_old_rules(&medium), replay(&medium));
+        let read = |replay: Replay| (replay.log(), replay.state);
+        let expected = if holds { Err(Refused(2)) } else { new.map(read) };
+        assert_eq!(old.map(read), expected);
+        met[usize::from(holds)] += 1;
+    }
+    assert!(met[0] >= 100 && met[1] >= 100, "without and with kind 4: {met:?}");
 }
 
 /// Every cut of one bit, and every bit alone, in a program and in an erase.

@@ -5,7 +5,7 @@ mod common;
 use common::*;
 use journal_tests::random::{refused_medium, ways, Random};
 use journal_tests::reader::*;
-use journal_tests::writer::{self, lay_page, put_page, Pending, State, Touched};
+use journal_tests::writer::{self, lay_page, put_page, stamped, Pending, State, Touched};
 
 /// A medium with these pages from page 0 on: kind, flags, serial, entries.
 fn pages(list: &[(u8, u8, u64, &[Entry])]) -> Vec<u8> {
@@ -155,9 +155,9 @@ fn unfit(change: impl Fn(&mut State)) {
     assert!(!fit(&medium, &state), "{state:?}");
     let (mut lent, mut given) = (medium.clone(), state.clone());
     assert_eq!(begin_append(&lent, &mut given, &[]), refused(7));
-    assert_eq!(writer::commit(&lent, &mut given), refused(7));
-    assert_eq!(writer::collect(&lent, &mut given, 99), refused(7));
-    assert_eq!(writer::step(&mut lent, &mut given), refused(7));
+    assert_eq!(begin_commit(&lent, &mut given), refused(7));
+    assert_eq!(begin_collect(&lent, &mut given, 99), refused(7));
+    assert_eq!(one_step(&mut lent, &mut given), refused(7));
     assert_eq!(open(&lent, &given, 5), refused(7));
     assert_eq!(pick(&lent, &given), refused(7));
     assert_eq!(survey(&lent, &given), refused(7));
@@ -279,21 +279,21 @@ fn small_examples_of_calls() {
     let (mut medium, mut state) = formatted(4);
     assert_eq!(open(&medium, &state, 5), refused(18));
     assert_eq!(open(&medium, &state, 40000), refused(18));
-    assert_eq!(writer::collect(&medium, &mut state, 0), refused(15));
-    assert_eq!(writer::collect(&medium, &mut state, 1), refused(15));
-    assert_eq!(writer::collect(&medium, &mut state, 4), refused(15));
-    assert_eq!(writer::collect(&medium, &mut state, usize::MAX), refused(15));
+    assert_eq!(begin_collect(&medium, &mut state, 0), refused(15));
+    assert_eq!(begin_collect(&medium, &mut state, 1), refused(15));
+    assert_eq!(begin_collect(&medium, &mut state, 4), refused(15));
+    assert_eq!(begin_collect(&medium, &mut state, usize::MAX), refused(15));
     assert_eq!(begin_append(&medium, &mut state, &[(32773, 1)]), refused(11));
-    assert_eq!(writer::append(&medium, &mut state, &[5, 6], &[1]), refused(10));
+    assert_eq!(begin_lists(&medium, &mut state, &[5, 6], &[1]), refused(10));
     let mut recovered = recover(&medium).expect("recovery");
-    assert_eq!(writer::step(&mut medium, &mut recovered), refused(9));
+    assert_eq!(one_step(&mut medium, &mut recovered), refused(9));
     begin_append(&medium, &mut state, &[(5, 1)]).expect("append");
-    assert_eq!(writer::commit(&medium, &mut state), refused(8));
+    assert_eq!(begin_commit(&medium, &mut state), refused(8));
     assert_eq!(begin_append(&medium, &mut state, &[]), refused(8));
-    assert_eq!(writer::collect(&medium, &mut state, 99), refused(8));
+    assert_eq!(begin_collect(&medium, &mut state, 99), refused(8));
     medium[256] = 0;
     let (lent, given) = (medium.clone(), state.clone());
-    assert_eq!(writer::step(&mut medium, &mut state), refused(16));
+    assert_eq!(one_step(&mut medium, &mut state), refused(16));
     assert_eq!((medium, state), (lent, given));
 }
 
@@ -313,19 +313,19 @@ fn serials_run_out() {
     let (medium, mut state) = formatted(4);
     state.next_serial = u64::MAX;
     assert_eq!(begin_append(&medium, &mut state, &[(5, 1)]), refused(14));
-    assert_eq!(writer::commit(&medium, &mut state), refused(14));
+    assert_eq!(begin_commit(&medium, &mut state), refused(14));
     state.next_serial = u64::MAX - 1;
     assert_eq!(begin_append(&medium, &mut state, &valves(0, 25)), refused(14));
     assert_eq!(begin_append(&medium, &mut state, &valves(0, 24)), Ok(()));
     // A step asks for one page only.
     let mut medium = medium;
     state.pending = pending_append(vec![FIVE; 96], 0);
-    assert!(writer::step(&mut medium, &mut state).is_ok());
+    assert!(one_step(&mut medium, &mut state).is_ok());
     assert_eq!(state.next_serial, u64::MAX);
     medium[512] = 0;
-    assert_eq!(writer::step(&mut medium, &mut state), refused(14));
+    assert_eq!(one_step(&mut medium, &mut state), refused(14));
     state.next_serial = 9;
-    assert_eq!(writer::step(&mut medium, &mut state), refused(16));
+    assert_eq!(one_step(&mut medium, &mut state), refused(16));
 }
 
 #[test]
@@ -340,11 +340,11 @@ fn order_of_append() {
     let mut words = vec![1; 96];
     let mut keys: Vec<u16> = (200..296).collect();
     keys[95] = 32773;
-    assert_eq!(writer::append(&medium, &mut state, &keys, &words[1..]), refused(10));
-    assert_eq!(writer::append(&medium, &mut state, &keys, &words), refused(11));
+    assert_eq!(begin_lists(&medium, &mut state, &keys, &words[1..]), refused(10));
+    assert_eq!(begin_lists(&medium, &mut state, &keys, &words), refused(11));
     words[95] = 0;
-    assert_eq!(writer::append(&medium, &mut state, &keys, &words), refused(12));
-    assert_eq!(writer::append(&medium, &mut state, &[5], &[0]), refused(13));
+    assert_eq!(begin_lists(&medium, &mut state, &keys, &words), refused(12));
+    assert_eq!(begin_lists(&medium, &mut state, &[5], &[0]), refused(13));
 }
 
 /// A journal whose block 0 is collectible and holds 48 live nodes: two pages.
@@ -371,47 +371,47 @@ fn order_of_collect() {
     state.next_page = 15;
     state.next_serial = u64::MAX;
     assert_eq!(available(&medium, &state), 1);
-    assert_eq!(writer::collect(&medium, &mut state, 1), refused(15));
+    assert_eq!(begin_collect(&medium, &mut state, 1), refused(15));
     // The 48th node's page is spoilt.
     let byte = medium[2 * 256 + 64];
     medium[2 * 256 + 64] ^= 1;
-    assert_eq!(writer::collect(&medium, &mut state, 0), refused(6));
+    assert_eq!(begin_collect(&medium, &mut state, 0), refused(6));
     medium[2 * 256 + 64] = byte;
-    assert_eq!(writer::collect(&medium, &mut state, 0), refused(13));
+    assert_eq!(begin_collect(&medium, &mut state, 0), refused(13));
     state.next_page = 14;
-    assert_eq!(writer::collect(&medium, &mut state, 0), refused(14));
+    assert_eq!(begin_collect(&medium, &mut state, 0), refused(14));
     state.next_serial = u64::MAX - 2;
-    assert_eq!(writer::collect(&medium, &mut state, 0), Ok(()));
+    assert_eq!(begin_collect(&medium, &mut state, 0), Ok(()));
     // A block that holds no live node needs neither page nor serial.
     state.pending = None;
     state.next_serial = u64::MAX;
     state.next_page = 16;
-    assert_eq!(writer::collect(&medium, &mut state, 2), Ok(()));
-    let step = writer::step(&mut medium, &mut state).expect("erase");
+    assert_eq!(begin_collect(&medium, &mut state, 2), Ok(()));
+    let step = one_step(&mut medium, &mut state).expect("erase");
     assert_eq!((step.touched, step.finished), (Touched::Block(2), true));
 }
 
 #[test]
 fn order_of_step() {
     let (mut medium, mut state) = collectible_block_0(4);
-    writer::collect(&medium, &mut state, 0).expect("collect");
+    begin_collect(&medium, &mut state, 0).expect("collect");
     // Nodes of the second page due do not matter to the first step.
     let byte = medium[2 * 256 + 64];
     medium[2 * 256 + 64] ^= 1;
-    writer::step(&mut medium, &mut state).expect("first page");
+    one_step(&mut medium, &mut state).expect("first page");
     // Now they do; 6 comes before 14, and 14 before 16.
     let serial = state.next_serial;
     state.next_serial = u64::MAX;
     let due = page_due(&medium, &state).expect("page due");
     medium[due * 256] = 0;
-    assert_eq!(writer::step(&mut medium, &mut state), refused(6));
+    assert_eq!(one_step(&mut medium, &mut state), refused(6));
     medium[2 * 256 + 64] = byte;
-    assert_eq!(writer::step(&mut medium, &mut state), refused(14));
+    assert_eq!(one_step(&mut medium, &mut state), refused(14));
     state.next_serial = serial;
-    assert_eq!(writer::step(&mut medium, &mut state), refused(16));
+    assert_eq!(one_step(&mut medium, &mut state), refused(16));
     medium[due * 256] = 0xFF;
-    writer::step(&mut medium, &mut state).expect("second page");
-    let last = writer::step(&mut medium, &mut state).expect("erase");
+    one_step(&mut medium, &mut state).expect("second page");
+    let last = one_step(&mut medium, &mut state).expect("erase");
     assert_eq!((last.touched, last.finished), (Touched::Block(0), true));
 }
 
@@ -424,7 +424,7 @@ fn the_page_due_may_be_absent() {
         medium[block * BLOCK_BYTES + 4095] = 0x7F;
     }
     assert_eq!(page_due(&medium, &state), None);
-    assert_eq!(writer::step(&mut medium, &mut state), refused(16));
+    assert_eq!(one_step(&mut medium, &mut state), refused(16));
     medium[2 * BLOCK_BYTES + 4095] = 0xFF;
     assert_eq!(page_due(&medium, &state), Some(32));
 }
@@ -465,9 +465,9 @@ fn one_is_first_everywhere() {
     let mut short = vec![0xFF; 12288];
     assert_eq!(writer::format(&short), refused(1));
     assert_eq!(begin_append(&short, &mut state, &[]), refused(1));
-    assert_eq!(writer::commit(&short, &mut state), refused(1));
-    assert_eq!(writer::collect(&short, &mut state, 99), refused(1));
-    assert_eq!(writer::step(&mut short, &mut state), refused(1));
+    assert_eq!(begin_commit(&short, &mut state), refused(1));
+    assert_eq!(begin_collect(&short, &mut state, 99), refused(1));
+    assert_eq!(one_step(&mut short, &mut state), refused(1));
     assert_eq!(open(&short, &state, 5), refused(1));
     assert_eq!(pick(&short, &state), refused(1));
     assert_eq!(survey(&short, &state), refused(1));
@@ -515,4 +515,204 @@ fn a_node_is_an_entry_below_n_of_any_whole_page() {
     assert_eq!(open(&medium, &state, 5), Ok(1000));
     state.index[0] = Place { valve: 6, address: 40 * 24 + 1 };
     assert_eq!(open(&medium, &state, 6), refused(6));
+}
+
+// ---------------------------------------------------------------------------
+// The buffer: 7, 23, 24, and its place in the orders
+
+/// Buffers that are no page in the making: each is another by one change.
+fn unfit_buffers() -> Vec<Vec<u8>> {
+    let two = holding(&[&[(5, 1000)], &[(6, 7)]]);
+    let mut list: Vec<Vec<u8>> = [0, 1, 255].iter().map(|&length| two[..length].to_vec()).collect();
+    list.push([two.to_vec(), vec![0xFF]].concat());
+    list.push(vec![0xFF; 255]);
+    list.push(vec![0xFF; 512]);
+    list.push(stamped(&two, 2).to_vec());
+    list.push(holding(&[&[(5, 1000)][..]; 17]).to_vec());
+    list.push(holding(&[&[(5, 1000)][..]; 24]).to_vec());
+    // The check, the kind, the flags, n, where groups end, the serial, an
+    // unused key and word, and a removal with a word.
+    let changes = [
+        (0, 0), (1, 0xFE), (2, 1), (2, 3), (2, 5), (2, 0xFF), (3, 1), (3, 0xFF), (4, 0), (4, 1),
+        (4, 3), (4, 17), (5, 1), (6, 0xFD), (6, 0xFB), (7, 0x7F), (8, 0), (15, 0x7F), (20, 0xFE),
+        (63, 0), (80, 0), (255, 0x7F), (17, 0x80),
+    ];
+    for (at, byte) in changes {
+        let mut buffer = two.to_vec();
+        assert_ne!(buffer[at], byte);
+        buffer[at] = byte;
+        list.push(buffer);
+    }
+    // Kind 4 and flags 3 without an entry, and a single byte that is not FFh.
+    list.push([vec![0xFF; 2], vec![4, 3, 0, 0], vec![0xFF; 250]].concat());
+    list.push([vec![0xFF; 16], vec![0xFE], vec![0xFF; 239]].concat());
+    list
+}
+
+/// The numbers that all calls that are lent the buffer answer.
+fn numbers(medium: &[u8], state: &State, buffer: &[u8], block: usize) -> [u8; 7] {
+    let (mut lent, mut given, mut lent_buffer) = (medium.to_vec(), state.clone(), buffer.to_vec());
+    let step = writer::step(&mut lent, &mut given, &mut lent_buffer).map(drop);
+    let begun = |result: Result<(), Refused>| result.err().map_or(0, |refused| refused.0);
+    [
+        begun(writer::append(medium, &mut state.clone(), buffer, &[], &[])),
+        begun(writer::commit(medium, &mut state.clone(), buffer)),
+        begun(writer::collect(medium, &mut state.clone(), buffer, block)),
+        begun(writer::buffer(medium, state, &mut buffer.to_vec(), &[], &[])),
+        begun(writer::flush(medium, &mut state.clone(), buffer)),
+        begun(step),
+        begun(word_at(medium, state, buffer, 5).map(drop)),
+    ]
+}
+
+#[test]
+fn unfit_buffers_are_7_after_1() {
+    let (medium, mut state) = formatted(4);
+    for pending in [None, Some(Pending::Commit { done: 0 }), Some(Pending::Flush)] {
+        state.pending = pending;
+        for buffer in unfit_buffers() {
+            assert_eq!(buffered(&buffer), None, "{buffer:?}");
+            assert_eq!(numbers(&medium, &state, &buffer, 99), [7; 7], "{buffer:?}");
+            assert_eq!(numbers(&medium[1..], &state, &buffer, 99), [1; 7]);
+        }
+    }
+}
+
+#[test]
+fn a_pending_flush_asks_for_its_group_in_the_buffer() {
+    let (medium, mut state) = formatted(4);
+    state.pending = Some(Pending::Flush);
+    let one = holding(&[&[(200, 1)]]);
+    assert_eq!(numbers(&medium, &state, &one, 99), [8, 8, 8, 8, 8, 0, 18]);
+    assert_eq!(numbers(&medium, &state, &EMPTY, 99), [7; 7]);
+    // 192 valves are set, and the buffer sets another.
+    state.index = index_of(192);
+    assert_eq!(numbers(&medium, &state, &one, 99), [7; 7]);
+    let twice = holding(&[&[(200, 1)], &[(200 + REMOVAL, 0)]]);
+    assert_eq!(numbers(&medium, &state, &twice, 99), [7; 7]);
+    // Where the buffer is not lent there is no group to judge.
+    assert_eq!(pick(&medium, &state), Ok(None));
+    assert!(survey(&medium, &state).is_ok());
+    assert_eq!(open(&medium, &state, 200), refused(18));
+    assert_eq!(count_available(&medium, &state), Ok(63));
+}
+
+#[test]
+fn twenty_four_comes_right_after_8() {
+    let (mut medium, mut state) = formatted(4);
+    let one = holding(&[&[(200, 1)]]);
+    // No list, no such block, no page and no serial.
+    medium[BLOCK_BYTES..].fill(0);
+    (state.next_page, state.next_serial) = (16, u64::MAX);
+    assert_eq!(numbers(&medium, &state, &one, 99), [24, 24, 24, 10, 13, 9, 18]);
+    assert_eq!(numbers(&medium, &state, &EMPTY, 99), [10, 13, 15, 10, 10, 9, 18]);
+    state.pending = Some(Pending::Commit { done: 0 });
+    assert_eq!(numbers(&medium, &state, &one, 99), [8, 8, 8, 8, 8, 14, 18]);
+}
+
+#[test]
+fn order_of_buffering() {
+    let (mut medium, mut state) = formatted(4);
+    state.index = index_of(191);
+    medium[BLOCK_BYTES..].fill(0);
+    (state.next_page, state.next_serial) = (16, u64::MAX);
+    let mut buffer = holding(&[&[(5, 1)], &[(6, 1), (7, 1)]]);
+    let before = buffer;
+    let mut answer = |state: &State, keys: &[u16], words: &[u64]| {
+        let result = writer::buffer(&medium, state, &mut buffer, keys, words);
+        assert_eq!(buffer, before);
+        result.expect_err("a refusal").0
+    };
+    let mut keys = vec![300; 97];
+    let mut words = vec![1; 97];
+    keys[14] = 32773;
+    keys[15] = 400;
+    assert_eq!(answer(&state, &keys, &words), 10);
+    assert_eq!(answer(&state, &keys[..2], &words[..1]), 10);
+    assert_eq!(answer(&state, &keys[..96], &words[..96]), 11);
+    words[14] = 0;
+    // Valves 300 and 400 beside 191; valve 5 is removed between.
+    keys[13] = 500;
+    assert_eq!(answer(&state, &keys[..96], &words[..96]), 12);
+    keys[13] = 300;
+    assert_eq!(answer(&state, &keys[..96], &words[..96]), 23);
+    assert_eq!(answer(&state, &keys[..14], &words[..14]), 23);
+    assert_eq!(answer(&state, &keys[..13], &words[..13]), 13);
+    state.next_page = 15;
+    assert_eq!(answer(&state, &keys[..13], &words[..13]), 13);
+    // 17 pages are available: one for the flush, and 16 are left.
+    medium[3 * BLOCK_BYTES..].fill(0xFF);
+    let result = writer::buffer(&medium, &state, &mut buffer, &keys[..13], &words[..13]);
+    assert_eq!(result, refused(14));
+    state.next_serial -= 1;
+    let result = writer::buffer(&medium, &state, &mut buffer, &keys[..13], &words[..13]);
+    assert_eq!(result, Ok(()));
+    assert_eq!(gather(&medium, &state, &mut buffer, &[(5, 1)]), refused(23));
+}
+
+/// 12 counts after each entry over the index: the buffer's, then the group's.
+#[test]
+fn twelve_counts_buffered_groups_too() {
+    let (medium, mut state) = formatted(4);
+    state.index = index_of(191);
+    let full = holding(&[&[(200, 1)]]);
+    let answer = |state: &State, buffer: &[u8; 256], group: &[(u16, u64)]| {
+        gather(&medium, state, &mut buffer.clone(), group)
+    };
+    assert_eq!(answer(&state, &full, &[(201, 1)]), refused(12));
+    assert_eq!(answer(&state, &full, &[(201, 1), (REMOVAL, 0)]), refused(12));
+    assert_eq!(answer(&state, &full, &[(REMOVAL, 0), (201, 1)]), Ok(()));
+    assert_eq!(answer(&state, &full, &[(200, 2)]), Ok(()));
+    let swapped = holding(&[&[(200, 1)], &[(200 + REMOVAL, 0)]]);
+    assert_eq!(answer(&state, &swapped, &[(201, 1)]), Ok(()));
+    assert_eq!(writer::flush(&medium, &mut state, &full), Ok(()));
+    // By hand: the buffer's own entries are too many, whatever the group.
+    state.pending = None;
+    state.index = index_of(192);
+    assert_eq!(answer(&state, &full, &[(200 + REMOVAL, 0)]), refused(12));
+    assert_eq!(writer::flush(&medium, &mut state, &full), refused(12));
+}
+
+#[test]
+fn order_of_flush() {
+    let (mut medium, mut state) = formatted(4);
+    state.index = index_of(192);
+    medium[BLOCK_BYTES..].fill(0);
+    (state.next_page, state.next_serial) = (16, u64::MAX);
+    let (other, same) = (holding(&[&[(200, 1)]]), holding(&[&[(5, 1)]]));
+    assert_eq!(writer::flush(&medium, &mut state, &EMPTY), refused(10));
+    assert_eq!(writer::flush(&medium, &mut state, &other), refused(12));
+    assert_eq!(writer::flush(&medium, &mut state, &same), refused(13));
+    medium[3 * BLOCK_BYTES..].fill(0xFF);
+    assert_eq!(writer::flush(&medium, &mut state, &same), refused(13));
+    state.next_page = 15;
+    assert_eq!(writer::flush(&medium, &mut state, &same), refused(14));
+    state.next_serial -= 1;
+    assert_eq!(writer::flush(&medium, &mut state, &same), Ok(()));
+    // The page due is not clean; 14 comes before 16.
+    medium[15 * PAGE_BYTES] = 0;
+    let mut buffer = same;
+    assert_eq!(writer::step(&mut medium, &mut state, &mut buffer), refused(16));
+    state.next_serial += 1;
+    assert_eq!(writer::step(&mut medium, &mut state, &mut buffer), refused(14));
+    assert_eq!(buffer, same);
+}
+
+#[test]
+fn order_of_the_words_place() {
+    let (mut medium, mut state) = formatted(4);
+    append(&mut medium, &mut state, &[(5, 1000), (7, 20)]);
+    let buffer = holding(&[&[(5, 1), (5, 2)], &[(6, 3), (6 + REMOVAL, 0)]]);
+    let at = |medium: &[u8], valve| word_at(medium, &state, &buffer, valve);
+    assert_eq!(at(&medium, 5), Ok(WordAt::Buffer(72)));
+    assert_eq!(at(&medium, 7), Ok(WordAt::Medium(256 + 72)));
+    for valve in [6, 8, 32768, 32773, 32774, 65535] {
+        assert_eq!(at(&medium, valve), refused(18));
+    }
+    // Its node is spoilt: 6 for valve 7, whose word is sought in the medium.
+    medium[256 + 64] ^= 1;
+    assert_eq!(at(&medium, 5), Ok(WordAt::Buffer(72)));
+    assert_eq!(at(&medium, 6), refused(18));
+    assert_eq!(at(&medium, 7), refused(6));
+    assert_eq!(word_at(&medium, &state, &EMPTY, 5), refused(6));
 }

@@ -11,12 +11,15 @@
 
 mod common;
 
-use common::{blank, circumstances, happening, pending_name, refused, valves, Given};
+use common::{
+    blank, circumstances, happening, lists, pending_name, refused, valves, Given, EMPTY,
+};
 use journal_tests::proved::{self, VjCells, VjState};
 use journal_tests::random::{self, cut_step, Action, Life, Outcome, Random, Reading};
-use journal_tests::reader::{self, Entry, Refused, BLOCK_BYTES, PAGE_BYTES, REMOVAL};
+use journal_tests::reader::{self, Entry, Refused, WordAt, BLOCK_BYTES, PAGE_BYTES, REMOVAL};
 use journal_tests::writer::{self, State, Step, Touched};
 use std::collections::BTreeMap;
+use std::fmt::Debug;
 use std::time::Instant;
 
 // ---------------------------------------------------------------------------
@@ -27,19 +30,20 @@ use std::time::Instant;
 struct Journal {
     medium: Vec<u8>,
     state: VjState,
+    buffer: [u8; PAGE_BYTES],
 }
 
 impl Journal {
     fn formatted(blocks: usize) -> Journal {
         let medium = blank(blocks);
         let state = proved::format(&medium).expect("format");
-        let mut journal = Journal { medium, state };
+        let mut journal = Journal { medium, state, buffer: EMPTY };
         journal.finish();
         journal
     }
 
     fn step(&mut self) -> Result<Step, Refused> {
-        proved::step(&mut self.medium, &mut self.state)
+        proved::step(&mut self.medium, &mut self.state, &mut self.buffer)
     }
 
     /// Steps until the pending operation is finished; what each touched.
@@ -56,8 +60,22 @@ impl Journal {
     }
 
     fn begin_append(&mut self, entries: &[(u16, u64)]) -> Result<(), Refused> {
-        let (keys, words): (Vec<u16>, Vec<u64>) = entries.iter().copied().unzip();
-        proved::append(&self.medium, &mut self.state, &keys, &words)
+        let (keys, words) = lists(entries);
+        proved::append(&self.medium, &mut self.state, &self.buffer, &keys, &words)
+    }
+
+    /// Puts a group into the buffer.
+    fn gather(&mut self, entries: &[(u16, u64)]) -> Result<(), Refused> {
+        let (keys, words) = lists(entries);
+        proved::buffer(&self.medium, &self.state, &mut self.buffer, &keys, &words)
+    }
+
+    fn begin_flush(&mut self) -> Result<(), Refused> {
+        proved::flush(&self.medium, &mut self.state, &self.buffer)
+    }
+
+    fn word_at(&self, valve: u16) -> Result<WordAt, Refused> {
+        proved::word_at(&self.medium, &self.state, &self.buffer, valve)
     }
 
     fn append(&mut self, entries: &[(u16, u64)]) -> Vec<Touched> {
@@ -66,11 +84,11 @@ impl Journal {
     }
 
     fn begin_commit(&mut self) -> Result<(), Refused> {
-        proved::commit(&self.medium, &mut self.state)
+        proved::commit(&self.medium, &mut self.state, &self.buffer)
     }
 
     fn collect(&mut self, block: usize) -> Result<(), Refused> {
-        proved::collect(&self.medium, &mut self.state, block)
+        proved::collect(&self.medium, &mut self.state, &self.buffer, block)
     }
 
     fn available(&self) -> Result<usize, Refused> {
@@ -168,6 +186,31 @@ fn thirty_entries_cut_after_their_first_page() {
 }
 
 #[test]
+fn single_moves_are_gathered_and_flushed() {
+    let mut journal = Journal::formatted(4);
+    assert_eq!(journal.begin_flush(), refused(10));
+    journal.gather(&[(5, 1000), (7, 20)]).expect("a group");
+    journal.gather(&[(32773, 0)]).expect("a group");
+    assert_eq!(journal.buffer[2..8], [4, 3, 3, 0, 0xFE, 0xFF]);
+    assert_eq!(journal.word_at(7), Ok(WordAt::Buffer(72)));
+    assert_eq!(journal.word_at(5), refused(18));
+    assert_eq!(journal.begin_append(&[]), refused(24));
+    assert_eq!(journal.begin_commit(), refused(24));
+    assert_eq!(journal.collect(99), refused(24));
+    assert_eq!(journal.gather(&valves(0, 14)), refused(23));
+    assert_eq!(journal.gather(&valves(0, 97)), refused(10));
+    assert_eq!(journal.log(), []);
+    journal.begin_flush().expect("flush");
+    assert_eq!(journal.gather(&[(6, 1)]), refused(8));
+    assert_eq!(journal.finish(), [Touched::Page(1)]);
+    assert_eq!(journal.buffer, EMPTY);
+    assert_eq!(journal.log(), [(5, 1000), (7, 20), (32773, 0)]);
+    assert_eq!(journal.word_at(7), Ok(WordAt::Medium(256 + 72)));
+    journal.buffer[255] = 0;
+    assert_eq!(journal.word_at(7), refused(7));
+}
+
+#[test]
 fn formatting_erases_upward_and_drops_what_is_pending() {
     let mut journal = Journal::formatted(4);
     journal.begin_append(&[(5, 1)]).expect("append");
@@ -211,18 +254,30 @@ fn count(counts: &mut Counts, name: impl Into<String>) {
     *counts.entry(name.into()).or_insert(0) += 1;
 }
 
+/// Whether the buffer is lent all FFh from now on: after formatting, a cut or
+/// a recovery.
+fn lent_empty(formatting: bool, action: &Action, outcome: Outcome) -> bool {
+    match outcome {
+        Outcome::Refused(_) => false,
+        Outcome::Accepted => *action == Action::Recover,
+        Outcome::Stepped(step) => formatting && step.finished,
+        Outcome::Cut { .. } => true,
+    }
+}
+
 /// One life led twice: by the second implementation, with the plain history,
 /// and by the proved library on a medium and a state of its own.
 struct Twins {
     life: Life,
     medium: Vec<u8>,
+    buffer: [u8; PAGE_BYTES],
     state: Option<VjState>,
 }
 
 impl Twins {
     fn new(random: &mut Random) -> Twins {
         let life = Life::new(random);
-        Twins { medium: life.medium.clone(), life, state: None }
+        Twins { medium: life.medium.clone(), buffer: life.buffer, life, state: None }
     }
 
     /// Both get so few serials.
@@ -234,10 +289,15 @@ impl Twins {
 
     /// Both carry out the action: they answer the same and leave the same.
     fn act(&mut self, action: &Action) -> Outcome {
+        let formatting = self.state.is_some_and(|state| state.operation == proved::FORMAT);
         let proved = self.act_proved(action);
         let second = self.life.act(action);
         assert_eq!(proved, second, "{}", happening(action, second));
         assert!(self.medium == self.life.medium, "every byte of the medium");
+        if lent_empty(formatting, action, second) {
+            self.buffer = EMPTY;
+        }
+        assert!(self.buffer == self.life.buffer, "every byte of the buffer");
         let state = self.state.map(|state| state.meaning().expect("a state that means something"));
         assert_eq!(state, self.life.state);
         second
@@ -252,12 +312,14 @@ impl Twins {
             Action::CutInside { mask } => self.cut_inside(mask),
             Action::Step => self.step(),
             Action::Append { keys, words } => {
-                self.call(|medium, state| proved::append(medium, state, keys, words))
+                self.call(|m, s, b| proved::append(m, s, b, keys, words))
             }
-            Action::Commit => self.call(proved::commit),
-            Action::Collect { block } => {
-                self.call(|medium, state| proved::collect(medium, state, *block))
+            Action::Commit => self.call(|m, s, b| proved::commit(m, s, b)),
+            Action::Collect { block } => self.call(|m, s, b| proved::collect(m, s, b, *block)),
+            Action::Buffer { keys, words } => {
+                self.call(|m, s, b| proved::buffer(m, s, b, keys, words))
             }
+            Action::Flush => self.call(|m, s, b| proved::flush(m, s, b)),
             Action::Read(reading) => self.read(*reading),
         }
     }
@@ -274,10 +336,13 @@ impl Twins {
     }
 
     /// A call that takes a state and does no device step.
-    fn call(&mut self, call: impl FnOnce(&[u8], &mut VjState) -> Result<(), Refused>) -> Outcome {
+    fn call(
+        &mut self,
+        call: impl FnOnce(&[u8], &mut VjState, &mut [u8]) -> Result<(), Refused>,
+    ) -> Outcome {
         let state = self.state.as_mut().expect("a state");
         let given = *state;
-        match call(&self.medium, state) {
+        match call(&self.medium, state, &mut self.buffer) {
             Ok(()) => Outcome::Accepted,
             Err(Refused(number)) => {
                 assert!(*state == given, "a refusal hands back the state given");
@@ -289,7 +354,7 @@ impl Twins {
     fn step(&mut self) -> Outcome {
         let state = self.state.as_mut().expect("a state");
         let given = *state;
-        match proved::step(&mut self.medium, state) {
+        match proved::step(&mut self.medium, state, &mut self.buffer) {
             Ok(step) => Outcome::Stepped(step),
             Err(Refused(number)) => {
                 assert!(*state == given, "a refusal hands back the state given");
@@ -307,7 +372,9 @@ impl Twins {
     fn cut_inside(&mut self, mask: &[u8]) -> Outcome {
         let mut state = self.state.take().expect("a state");
         let mut after = self.medium.clone();
-        let Ok(step) = proved::step(&mut after, &mut state) else { return self.cut_between() };
+        let Ok(step) = proved::step(&mut after, &mut state, &mut self.buffer) else {
+            return self.cut_between();
+        };
         let complete = cut_step(&mut self.medium, &after, &step.touched, mask);
         Outcome::Cut { struck: Some(step.touched), complete }
     }
@@ -317,7 +384,12 @@ impl Twins {
         let medium = &self.medium;
         let proved = self.state.as_ref().expect("a state");
         let second = self.life.state.as_ref().expect("a state");
+        let buffer = &self.buffer;
         let answer = match reading {
+            Reading::Word { valve } => same(
+                proved::word_at(medium, proved, buffer, valve),
+                reader::word_at(medium, second, buffer, valve),
+            ),
             Reading::Open { valve } => {
                 same(proved::open(medium, proved, valve), reader::open(medium, second, valve))
             }
@@ -339,6 +411,21 @@ impl Twins {
             }
         };
         answer.map_or_else(|Refused(number)| Outcome::Refused(number), |()| Outcome::Accepted)
+    }
+
+    /// The words of some valves that are named are those of the settings with
+    /// the buffered groups laid on.
+    fn check_words(&self, random: &mut Random) {
+        let (Some(state), Some(history)) = (&self.state, &self.life.history) else { return };
+        let settings = history.with_buffered();
+        let buffered = history.buffered().iter().flatten().map(|entry| entry.valve());
+        let named: Vec<u16> = buffered.chain(settings.keys().copied()).collect();
+        for _ in 0..named.len().min(3) {
+            let valve = random.one_of(&named);
+            let place = proved::word_at(&self.medium, state, &self.buffer, valve);
+            let word = place.map(|at| at.read(&self.medium, &self.buffer));
+            assert_eq!(word, settings.get(&valve).copied().ok_or(Refused(18)));
+        }
     }
 
     /// Recovery now gives the log and the settings of the plain history, in
@@ -374,7 +461,7 @@ impl Twins {
 }
 
 /// Both answers are the same; whether it is a refusal.
-fn same<T: PartialEq + std::fmt::Debug>(
+fn same<T: PartialEq + Debug>(
     proved: Result<T, Refused>,
     second: Result<T, Refused>,
 ) -> Result<(), Refused> {
@@ -403,6 +490,9 @@ fn live(seed: u64, events: u64, counts: &mut Counts) {
         if cut || random.one_in(8) {
             twins.check_recovery(&mut random);
         }
+        if random.one_in(4) {
+            twins.check_words(&mut random);
+        }
         if cut && since_cut < 4 {
             count(counts, "cut soon after a cut");
         }
@@ -413,7 +503,7 @@ fn live(seed: u64, events: u64, counts: &mut Counts) {
 /// What must happen in the lists, and how often at least.
 #[rustfmt::skip]
 const HAPPENINGS: [(usize, &[&str]); 2] = [
-    (200, &[
+    (100, &[
         "append", "commit", "collect", "recover", "format", "read", "step page", "step block",
         "append refused 8", "append refused 12", "append refused 13", "append refused 14",
         "commit refused 8", "collect refused 8", "collect refused 15", "step refused 9",
@@ -423,12 +513,16 @@ const HAPPENINGS: [(usize, &[&str]); 2] = [
         "cut between nothing", "cut inside page", "cut inside page complete",
         "cut inside block", "cut inside append", "cut inside commit", "cut inside collection",
         "cut soon after a cut", "erase before a page", "cut inside the erase before a page",
-        "erase before a page, the block being weak",
+        "erase before a page, the block being weak", "buffer", "buffer refused 8",
+        "buffer refused 12", "buffer refused 13", "buffer refused 23", "flush", "flush finished",
+        "flush refused 8", "append refused 24", "commit refused 24", "collect refused 24",
+        "cut inside flush", "cut inside flush, complete",
     ]),
     (5, &[
         "append refused 10", "append refused 11", "commit refused 13", "commit refused 14",
         "collect refused 13", "collect refused 14", "read refused 17", "read refused 18",
-        "cut inside formatting", "format while something is pending",
+        "cut inside formatting", "format while something is pending", "buffer refused 10",
+        "buffer refused 11", "buffer refused 14", "flush refused 10",
     ]),
 ];
 
@@ -445,9 +539,12 @@ fn lists_of_calls_and_cuts() {
     }
     let seconds = start.elapsed().as_secs_f64();
     println!("{events} events in {seconds:.1} s: {:.0} a second", events as f64 / seconds);
-    // A step that is due can be made.
-    for name in ["step refused 6", "step refused 7", "step refused 14", "step refused 16"] {
-        assert!(!counts.contains_key(name), "{name}");
+    // A step that is due can be made, and what is buffered can be flushed.
+    for (call, numbers) in [("step", &[6, 7, 14, 16][..]), ("flush", &[7, 11, 12, 13, 14])] {
+        for number in numbers {
+            let name = format!("{call} refused {number}");
+            assert!(!counts.contains_key(&name), "{name}");
+        }
     }
     for (least, names) in HAPPENINGS.iter().filter(|_| events >= EVENTS) {
         for &name in *names {
@@ -494,87 +591,148 @@ impl Answers {
         *self.0.entry((call, number)).or_insert(0) += 1;
     }
 
-    /// A call that begins something, in both. What it hands back if accepted.
-    fn begin(
+    /// A call in both, each on lent things of its own: they answer the same and
+    /// leave the same. What it leaves and answers if it is accepted.
+    fn call<T: PartialEq + Debug>(
         &mut self,
         name: &'static str,
-        medium: &[u8],
-        given: &VjState,
-        proved: impl FnOnce(&[u8], &mut VjState) -> Result<(), Refused>,
-        second: impl FnOnce(&[u8], &mut State) -> Result<(), Refused>,
-    ) -> Option<VjState> {
-        let (lent, mut back) = (medium.to_vec(), *given);
-        let answer = proved(&lent, &mut back);
-        let (expected, left) = expected(medium, given, |state| second(medium, state));
+        lent: &Lent,
+        proved: impl FnOnce(&mut [u8], &mut VjState, &mut [u8]) -> Result<T, Refused>,
+        second: impl FnOnce(&mut [u8], &mut State, &mut [u8]) -> Result<T, Refused>,
+    ) -> Option<(Lent, T)> {
+        let (mut after, mut other) = (lent.clone(), lent.clone());
+        let answer = proved(&mut after.medium, &mut after.state, &mut after.buffer);
+        let (expected, left) = expected(&lent.medium, &lent.state, |state| {
+            second(&mut other.medium, state, &mut other.buffer)
+        });
         assert_eq!(answer, expected, "{name}");
-        assert!(lent == medium, "{name} leaves the medium");
-        check_handed_back(answer.is_err(), given, &back, left);
+        assert!(after.medium == other.medium, "{name}: the medium");
+        assert!(after.buffer == other.buffer, "{name}: the buffer");
+        check_handed_back(answer.is_err(), &lent.state, &after.state, left);
         self.note(name, &answer);
-        answer.ok().map(|()| back)
+        Some((after, answer.ok()?))
     }
 
     /// A step, in both. What it leaves if it is accepted and not the last.
-    fn step(&mut self, medium: &[u8], given: &VjState) -> Option<(Vec<u8>, VjState)> {
-        let (mut lent, mut back) = (medium.to_vec(), *given);
-        let answer = proved::step(&mut lent, &mut back);
-        let mut after = medium.to_vec();
-        let (expected, left) = expected(medium, given, |state| writer::step(&mut after, state));
-        assert_eq!(answer, expected, "step");
-        assert!(lent == after, "step leaves the medium as the second implementation does");
-        check_handed_back(answer.is_err(), given, &back, left);
-        self.note("step", &answer);
-        answer.ok().filter(|step| !step.finished).map(|_| (lent, back))
+    fn step(&mut self, lent: &Lent) -> Option<Lent> {
+        let (after, step) = self.call("step", lent, proved::step, writer::step)?;
+        Some(after).filter(|_| !step.finished)
     }
 
     /// Steps until one is refused or the last, at most twelve.
-    fn steps(&mut self, medium: &[u8], given: &VjState) {
-        let mut next = self.step(medium, given);
+    fn steps(&mut self, lent: &Lent) {
+        let mut next = self.step(lent);
         for _ in 1..12 {
-            let Some((medium, state)) = next else { return };
-            next = self.step(&medium, &state);
+            let Some(lent) = next else { return };
+            next = self.step(&lent);
         }
     }
 
-    /// Every call that writes, and available pages.
-    fn all(&mut self, random: &mut Random, medium: &[u8], given: &VjState) {
-        let formatting = proved::format(medium);
-        let expected_format = writer::format(medium);
+    /// Every call that writes, available pages, and the place of a word.
+    fn all(&mut self, random: &mut Random, lent: &Lent) {
+        let formatting = proved::format(&lent.medium);
+        let expected_format = writer::format(&lent.medium);
         self.note("format", &formatting);
         let meaning = formatting.map(|state| state.meaning().expect("a meaning"));
         assert_eq!(meaning, expected_format);
-        self.available(medium, given);
-        let (keys, words) = some_lists(random);
-        let (lent_keys, lent_words) = (keys.clone(), words.clone());
-        let block = some_block(random, medium, given);
-        let begun = [
-            self.begin(
-                "append",
-                medium,
-                given,
-                |medium, state| proved::append(medium, state, &lent_keys, &lent_words),
-                |medium, state| writer::append(medium, state, &keys, &words),
-            ),
-            self.begin("commit", medium, given, proved::commit, writer::commit),
-            self.begin(
-                "collect",
-                medium,
-                given,
-                |medium, state| proved::collect(medium, state, block),
-                |medium, state| writer::collect(medium, state, block),
-            ),
-        ];
-        assert!(lent_keys == keys && lent_words == words, "the lists stay");
-        self.steps(medium, given);
-        for state in begun.iter().flatten().filter(|_| random.one_in(2)) {
-            self.steps(medium, state);
+        self.read(random, lent);
+        self.buffer(random, lent);
+        let begun = self.begin(random, lent);
+        self.steps(lent);
+        for (lent, ()) in begun.iter().flatten().filter(|_| random.one_in(2)) {
+            self.steps(lent);
         }
     }
 
-    fn available(&mut self, medium: &[u8], given: &VjState) {
-        let answer = proved::count_available(medium, given);
-        let call = |state: &mut State| reader::count_available(medium, state);
-        assert_eq!(answer, expected(medium, given, call).0, "available");
-        self.note("available", &answer);
+    /// Every call that begins something and takes a state.
+    fn begin(&mut self, random: &mut Random, lent: &Lent) -> [Option<(Lent, ())>; 4] {
+        let (keys, words) = some_lists(random);
+        let (lent_keys, lent_words) = (keys.clone(), words.clone());
+        let block = some_block(random, &lent.medium, &lent.state);
+        let begun = [
+            self.call(
+                "append",
+                lent,
+                |m, s, b| proved::append(m, s, b, &lent_keys, &lent_words),
+                |m, s, b| writer::append(m, s, b, &keys, &words),
+            ),
+            self.call(
+                "commit",
+                lent,
+                |m, s, b| proved::commit(m, s, b),
+                |m, s, b| writer::commit(m, s, b),
+            ),
+            self.call(
+                "collect",
+                lent,
+                |m, s, b| proved::collect(m, s, b, block),
+                |m, s, b| writer::collect(m, s, b, block),
+            ),
+            self.call(
+                "flush",
+                lent,
+                |m, s, b| proved::flush(m, s, b),
+                |m, s, b| writer::flush(m, s, b),
+            ),
+        ];
+        assert!(lent_keys == keys && lent_words == words, "the lists stay");
+        begun
+    }
+
+    /// Groups put into the buffer, mostly small ones, until one is refused.
+    fn buffer(&mut self, random: &mut Random, lent: &Lent) {
+        let mut next = Some((lent.clone(), ()));
+        for _ in 0..6 {
+            let Some((lent, ())) = next else { return };
+            let (mut keys, mut words) = some_lists(random);
+            let most = if random.one_in(2) { random.from_to(1, 6) } else { keys.len() };
+            keys.truncate(most);
+            words.truncate(most);
+            next = self.call(
+                "buffer",
+                &lent,
+                |m, s, b| proved::buffer(m, s, b, &keys, &words),
+                |m, s, b| writer::buffer(m, s, b, &keys, &words),
+            );
+        }
+    }
+
+    /// Available pages, and the places of some words.
+    fn read(&mut self, random: &mut Random, lent: &Lent) {
+        self.call(
+            "available",
+            lent,
+            |m, s, _| proved::count_available(m, s),
+            |m, s, _| reader::count_available(m, s),
+        );
+        for _ in 0..3 {
+            let valve = some_valve(random, lent);
+            self.call(
+                "word",
+                lent,
+                |m, s, b| proved::word_at(m, s, b, valve),
+                |m, s, b| reader::word_at(m, s, b, valve),
+            );
+        }
+    }
+}
+
+/// What is lent to a call: a medium, a state and a buffer that may be anything.
+#[derive(Clone)]
+struct Lent {
+    medium: Vec<u8>,
+    state: VjState,
+    buffer: Vec<u8>,
+}
+
+/// Mostly a valve that the buffer or the index names.
+fn some_valve(random: &mut Random, lent: &Lent) -> u16 {
+    let places = lent.state.meaning().map_or(Vec::new(), |state| state.index);
+    let entries = reader::buffered(&lent.buffer).unwrap_or_default();
+    match random.below(4) {
+        0 | 1 if !places.is_empty() => random.one_of(&places).valve,
+        0..=2 if !entries.is_empty() => random.one_of(&entries).key & !REMOVAL,
+        _ => random.bits() as u16,
     }
 }
 
@@ -642,8 +800,9 @@ fn steps_of(life: &mut Life, most: usize) {
     }
 }
 
-/// A medium and a state of its own that may have been changed in many ways.
-fn some_variant(random: &mut Random, life: &Life) -> (Vec<u8>, VjState) {
+/// A medium and a state of its own that may have been changed in many ways, and
+/// a buffer: that of the life or any.
+fn some_variant(random: &mut Random, life: &Life) -> Lent {
     let mut medium = life.medium.clone();
     let blocks = medium.len() / BLOCK_BYTES;
     let mut state = match (&life.state, reader::recover(&medium)) {
@@ -666,14 +825,16 @@ fn some_variant(random: &mut Random, life: &Life) -> (Vec<u8>, VjState) {
             _ => {}
         }
     }
-    let mut given = VjState::from(&state);
+    let mut state = VjState::from(&state);
     if random.one_in(2) {
-        fill_idle_places(random, &mut given);
+        fill_idle_places(random, &mut state);
     }
     if random.one_in(4) {
-        damage_fields(random, &mut given);
+        damage_fields(random, &mut state);
     }
-    (medium, given)
+    let kept = random.one_in(2);
+    let buffer = if kept { life.buffer.to_vec() } else { random::some_buffer(random) };
+    Lent { medium, state, buffer }
 }
 
 /// Makes most clean blocks unclean, so that few pages are available, and
@@ -732,7 +893,7 @@ fn fill_idle_places(random: &mut Random, state: &mut VjState) {
         state.group.count = some_number(random) as usize;
         state.pages = std::array::from_fn(|_| random.bits() as u16);
     }
-    if state.operation == proved::IDLE {
+    if matches!(state.operation, proved::IDLE | proved::FLUSH) {
         state.progress = some_number(random);
     }
     for number in state.erased.iter_mut().filter(|number| **number != 1) {
@@ -744,8 +905,8 @@ fn fill_idle_places(random: &mut Random, state: &mut VjState) {
 /// Changes fields of a state as the library has it, one or all.
 fn damage_fields(random: &mut Random, state: &mut VjState) {
     match random.below(9) {
-        0 => state.operation = random.from_to(5, 255) as u8,
-        1 => state.operation = random.below(5) as u8,
+        0 => state.operation = random.from_to(6, 255) as u8,
+        1 => state.operation = random.below(6) as u8,
         2 => state.index.count = random.one_of(&[193, 194, 1 << 32, usize::MAX]),
         3 => state.group.count = some_number(random) as usize,
         4 | 5 => state.progress = some_number(random),
@@ -774,7 +935,7 @@ fn any_state(random: &mut Random) -> VjState {
     state.index.count = some_number(random) as usize;
     state.group.count = some_number(random) as usize;
     state.pages = std::array::from_fn(|_| random.bits() as u16);
-    state.operation = random.below(7) as u8;
+    state.operation = random.below(8) as u8;
     state.progress = some_number(random);
     random.fill(&mut state.erased);
     state
@@ -795,12 +956,15 @@ fn any_bytes(random: &mut Random) -> Vec<u8> {
 }
 
 /// The numbers that each call may answer, 0 being no refusal.
-const NUMBERS: [(&str, &[u8]); 6] = [
+const NUMBERS: [(&str, &[u8]); 9] = [
     ("format", &[0, 1]),
-    ("append", &[0, 1, 7, 8, 10, 11, 12, 13, 14]),
-    ("commit", &[0, 1, 7, 8, 13, 14]),
-    ("collect", &[0, 1, 7, 8, 15, 6, 13, 14]),
+    ("append", &[0, 1, 7, 8, 24, 10, 11, 12, 13, 14]),
+    ("commit", &[0, 1, 7, 8, 24, 13, 14]),
+    ("collect", &[0, 1, 7, 8, 24, 15, 6, 13, 14]),
+    ("buffer", &[0, 1, 7, 8, 10, 11, 12, 23, 13, 14]),
+    ("flush", &[0, 1, 7, 8, 10, 12, 13, 14]),
     ("step", &[0, 1, 7, 9, 6, 14, 16]),
+    ("word", &[0, 1, 7, 18, 6]),
     ("available", &[0, 1, 7]),
 ];
 
@@ -817,12 +981,13 @@ fn any_medium_any_state_and_any_lists() {
             towards_a_collection(&mut random, &mut life);
         }
         for _ in 0..30 {
-            let (medium, given) = some_variant(&mut random, &life);
-            answers.all(&mut random, &medium, &given);
+            let lent = some_variant(&mut random, &life);
+            answers.all(&mut random, &lent);
         }
         let medium = any_bytes(&mut random);
-        for given in [any_state(&mut random), VjState::from(&State::at_format(4))] {
-            answers.all(&mut random, &medium, &given);
+        for state in [any_state(&mut random), VjState::from(&State::at_format(4))] {
+            let buffer = random::some_buffer(&mut random);
+            answers.all(&mut random, &Lent { medium: medium.clone(), state, buffer });
         }
     }
     println!("{:?}", answers.0);

@@ -1,4 +1,4 @@
-// Runs 01's test pages and test media on the proved functions and prints what they give.
+// Runs the papers' test pages and test media on the proved functions and prints what they give.
 ghost use mathlib.Core.Path.{_≡_};
 ghost use Prim.Native.Nat.{_≤_};
 ghost use lib.ListN.{length};
@@ -7,9 +7,12 @@ use show::text;
 use state::State;
 use trials::APPEND;
 use trials::APPENDED;
+use trials::BUFFER;
+use trials::BUFFER_VALVES;
 use trials::BYTE;
 use trials::COLLECTED;
 use trials::COMMITTED;
+use trials::FLUSHED;
 use trials::FORMATTED;
 use trials::RECOVER;
 use trials::SET;
@@ -287,6 +290,127 @@ fn collected() {
     first_block(&m, t.state);
 }
 
+// Two groups on one page; and 16 entries in two groups.
+fn small_groups() {
+    page_of(
+        b"{5 to 1000}, {7 to 20, remove 5} flushed, serial 2:\n",
+        &[
+            FORMATTED,
+            BUFFER,
+            1,
+            5,
+            1000,
+            BUFFER,
+            2,
+            7,
+            32773,
+            20,
+            0,
+            FLUSHED,
+        ],
+        1,
+    );
+    page_of(
+        b"16 entries in two groups:\n",
+        &[
+            FORMATTED,
+            BUFFER_VALVES,
+            10,
+            0,
+            BUFFER_VALVES,
+            6,
+            10,
+            FLUSHED,
+        ],
+        1,
+    );
+}
+
+// A flush, and one whose program was cut: byte 16 of its page is left FFh.
+fn flushes() {
+    left(
+        b"the first of these:\n",
+        &[
+            FORMATTED,
+            BUFFER,
+            1,
+            5,
+            1000,
+            BUFFER,
+            2,
+            7,
+            32773,
+            20,
+            0,
+            FLUSHED,
+        ],
+    );
+    left(
+        b"its page torn:\n",
+        &[
+            FORMATTED,
+            BUFFER,
+            1,
+            5,
+            1000,
+            BUFFER,
+            2,
+            7,
+            32773,
+            20,
+            0,
+            FLUSHED,
+            BYTE,
+            272,
+            255,
+        ],
+    );
+}
+
+// The word of a valve, in the write buffer or in the medium.
+fn word<'a>(m: &'a [u8], s: State, b: &'a [u8], valve: u16) {
+    part(b"valve ", valve as u64);
+    let w = word::word(m, s, b, valve);
+    if w.len() < 8 {
+        show::answer(b": ", word::word_number(m, s, b, valve));
+        return;
+    }
+    line(b": ", codec::le64(w, 0));
+}
+
+// Valves 7, 8 and 9 on the medium; 5 and 7 set and 8 removed in the write buffer.
+fn words() {
+    let mut m = [255u8; 16384];
+    let mut b = [255u8; 256];
+    let t = trials::play_with(
+        &mut m,
+        &mut b,
+        &[
+            FORMATTED,
+            SET,
+            2,
+            7,
+            APPENDED,
+            1,
+            9,
+            90,
+            BUFFER,
+            3,
+            5,
+            7,
+            32776,
+            1000,
+            20,
+            0,
+        ],
+    );
+    text(b"valves with a group buffered:\n");
+    word(&m, t.state, &b, 5);
+    word(&m, t.state, &b, 7);
+    word(&m, t.state, &b, 8);
+    word(&m, t.state, &b, 9);
+}
+
 fn main() {
     base();
     pages();
@@ -307,4 +431,7 @@ fn main() {
     recovered();
     committed();
     collected();
+    small_groups();
+    flushes();
+    words();
 }

@@ -3,32 +3,32 @@
 use mathlib.Core.Path.{_≡_, refl, sym, ap, _∙_, subst}
 use mathlib.Core.Bool.{Bool, true, false, not}
 use mathlib.Core.Option.{Option, none, some}
-use mathlib.Core.List.{List}
+use mathlib.Core.List.{List, [], _∷_}
 use Prim.Native.Nat.{ℕ}
 use native.Mathlib.Omega.{arith}
 use lib.Dec.{ltb, eqb}
 use lib.ListN.{length}
-use borrow.Author.Tests.{eqb-true, eq-eqb}
+use borrow.Author.Tests.{eqb-true, eq-eqb, not-true}
 use Rattle.lists.specs.declared.Cell.{Cell}
-use Rattle.lists.specs.Lists.{isSome, valueOr}
-use Rattle.lists.specs.Needs.{checked}
+use Rattle.lists.specs.Lists.{all, isSome, valueOr}
+use Rattle.lists.specs.Needs.{Need, checked}
 use Rattle.lists.specs.Cells.{cell, Entry}
-use Rattle.lists.proofs.Laws.{by-cases}
-use Rattle.page.specs.Pages.{View}
+use Rattle.lists.proofs.Laws.{by-cases, all-head, all-tail}
+use Rattle.page.specs.Pages.{View, changesOf}
 use Rattle.flash.specs.Medium.{views}
 use Rattle.index.specs.Index.{lookup}
 use Rattle.blocks.specs.Blocks.{sizeOk}
 use Rattle.nodes.specs.Nodes.{wordAt}
 use Rattle.state.specs.declared.State.{State}
 use Rattle.state.specs.State.{Held, meaning, fit}
-use Rattle.recovery.specs.Recovery.{Recovery, recover as recoverOf, changesOf}
+use Rattle.recovery.specs.Recovery.{Recovery, recover as recoverOf}
 use Rattle.recover.specs.declared.Recovered.{Recovered}
 use Rattle.recover.specs.Told as told
 use Rattle.recover.specs.Told.{Recovers}
 use Rattle.readings.specs.Readings.{filed, readInto, readLog, Opening, openingOf, pickOf}
 use Rattle.read.specs.Answers.{wordOr6}
-use Rattle.calls.specs.Calls.{Call, formatOf}
-use Rattle.step.specs.Step.{Step, mediumAfter}
+use Rattle.calls.specs.Calls.{Call, Buffering, formatOf, bufferNeeds, bufferOf}
+use Rattle.step.specs.Step.{Step, mediumAfter, bufferAfter}
 use Rattle.begin.specs.declared.Begun.{Begun}
 use Rattle.begin.specs.Begun as begun
 use Rattle.advance.specs.declared.Stepped.{Stepped}
@@ -36,26 +36,33 @@ use Rattle.advance.specs.Outcomes as outcomes
 use Rattle.advance.specs.Outcomes.{Outcome, touchedBy, doneOf, outcome, done, performed}
 use Rattle.valve_log.specs.History.{History, start as noHistory, Told, unchanged, steppedPage, steppedBlock, tell}
 use Rattle.valve_log.specs.Reached as reached
-use Rattle.valve_log.specs.Reached.{World, world, withState, stepDue, Event, called, stepped, recovered, cutShort, happen, accepted, finishes, meanwhile, Words, end, more, Shows, Point3}
+use Rattle.valve_log.specs.Reached.{World, world, withState, stepDue, Event, fresh, lentAnew, called, filled, stepped, recovered, cutShort, happen, accepted, finishes, meanwhile, Words, end, more, Shows, Point3}
 use Rattle.valve_log.specs.Steady.{Steady, Answers}
 use Rattle.valve_log.proofs.Point3.{point3}
 use Rattle.valve_log.proofs.Steady.{steady}
-use Rattle.journal.specs.Run.{Machine, meant, worldOf, goingOn, Moves, begunBy, steppedBy, recoveredBy, toldBy, saysFinished, finishedBy, meanwhileBy, Formatting, Run, openingIn, Handed, Point3OfCode}
+use Rattle.journal.specs.Run.{Machine, meant, worldOf, goingOn, lentOn, Moves, begunBy, steppedBy, recoveredBy, toldBy, saysFinished, finishedBy, meanwhileBy, Formatting, Run, openingIn, Handed, Point3OfCode}
 
 -- ---- one event
 
 -- a call that begins an operation
-begins : (m : List ℕ) (s : State) (t : Told) (c : Call) (r : Begun) → begun.toldOf r ≡ begun.given s c
-    → world m (some (meaning (r .state))) ≡ called (world m (some (meaning s))) t c .after
+begins : (m : List ℕ) (s : State) (b : List ℕ) (t : Told) (c : Call) (r : Begun) → begun.toldOf r ≡ begun.given s c
+    → world m (some (meaning (r .state))) b ≡ called (world m (some (meaning s)) b) t c .after
 unfolding called begun.toldOf
-begins m s t (Call.refused n) r e =
+begins m s b t (Call.refused n) r e =
     by-cases (eqb (r .number) 0)
     (λ q. let y = rw q at e in let z : _≡_ {A = ℕ} 0 1 = cc in absurd (omega arith))
     (λ q. let y = rw q at e in let z : r .state ≡ s = cc in rw z)
-begins m s t (Call.begun h) r e =
+begins m s b t (Call.begun h) r e =
     by-cases (eqb (r .number) 0)
-    (λ q. let y = rw q at e in let z : meaning (r .state) ≡ h = cc in ap (λ (x : Held). world m (some x)) z)
+    (λ q. let y = rw q at e in let z : meaning (r .state) ≡ h = cc in ap (λ (x : Held). world m (some x) b) z)
     (λ q. let y = rw q at e in let z : _≡_ {A = ℕ} 0 1 = cc in absurd (omega arith))
+
+-- a group put into the buffer
+fills : (m : List ℕ) (s : State) (b : List ℕ) (t : Told) (c : Buffering) (r : ℕ) (b′ : List ℕ) → begun.filled r b′ ≡ begun.filledBy b c
+    → world m (some (meaning s)) b′ ≡ filled (world m (some (meaning s)) b) t c .after
+unfolding filled
+fills m s b t (Buffering.refused n) r b′ e = ap (λ (x : begun.Filled). world m (some (meaning s)) (x .buffer)) e
+fills m s b t (Buffering.buffered c) r b′ e = ap (λ (x : begun.Filled). world m (some (meaning s)) (x .buffer)) e
 
 -- what the state holds after what a step's answer says
 unfoldable heldAfter : Held → Option outcomes.Done → Held
@@ -75,36 +82,36 @@ said h r d e =
     (λ q. rw q)
 
 -- a step leaves what its definition says
-left : (m : List ℕ) (s : State) (t : Step) → world (mediumAfter m t) (some (heldAfter (meaning s) (some (done s t)))) ≡ stepped (world m (some (meaning s))) t .after
-unfolding stepped done mediumAfter heldAfter
-left m s (Step.refused n) = refl
-left m s (Step.program p pg x finished) = refl
-left m s (Step.erase b x finished) = refl
+left : (m : List ℕ) (s : State) (b : List ℕ) (t : Step) → world (mediumAfter m t) (some (heldAfter (meaning s) (some (done s t)))) (bufferAfter b t) ≡ stepped (world m (some (meaning s)) b) t .after
+unfolding stepped done mediumAfter bufferAfter heldAfter
+left m s b (Step.refused n) = refl
+left m s b (Step.program p pg x finished) = refl
+left m s b (Step.erase c x finished) = refl
 
-steps : (m m′ : List ℕ) (s : State) (t : Step) (r : Stepped) → outcome r m′ ≡ performed m s t
-    → world m′ (some (meaning (r .state))) ≡ stepped (world m (some (meaning s))) t .after
+steps : (m m′ : List ℕ) (s : State) (b b′ : List ℕ) (t : Step) (r : Stepped) → outcome r m′ ≡ performed m s t → b′ ≡ bufferAfter b t
+    → world m′ (some (meaning (r .state))) b′ ≡ stepped (world m (some (meaning s)) b) t .after
 unfolding performed
-steps m m′ s t r e =
+steps m m′ s b b′ t r e f =
     let d : doneOf r ≡ some (done s t) = ap (λ (o : Outcome). o .done) e in
     let y : m′ ≡ mediumAfter m t = ap (λ (o : Outcome). o .medium) e in
     let z : meaning (r .state) ≡ heldAfter (meaning s) (some (done s t)) = sym (said (meaning s) r (done s t) d) ∙ ap (heldAfter (meaning s)) d in
-    ap (λ (l : List ℕ). world l (some (meaning (r .state)))) y ∙ ap (λ (x : Held). world (mediumAfter m t) (some x)) z ∙ left m s t
+    ap (λ (l : List ℕ). world l (some (meaning (r .state))) b′) y ∙ ap (λ (x : Held). world (mediumAfter m t) (some x) b′) z ∙ ap (λ (l : List ℕ). world (mediumAfter m t) (some (heldAfter (meaning s) (some (done s t)))) l) f ∙ left m s b t
 
 -- a recovery
-recovers : (m : List ℕ) (s : Option State) (R : Recovery) (r : Recovered) → told.told (r .number) (r .state) ≡ told.tell R
-    → world m (meant (goingOn r s)) ≡ recovered (world m (meant s)) R .after
-unfolding recovered told.told told.tell goingOn meant
-recovers m s (Recovery.refused n) r e =
+recovers : (m : List ℕ) (s : Option State) (b : List ℕ) (R : Recovery) (r : Recovered) → told.told (r .number) (r .state) ≡ told.tell R
+    → world m (meant (goingOn r s)) (lentOn r b) ≡ recovered (world m (meant s) b) R .after
+unfolding recovered told.told told.tell goingOn lentOn meant
+recovers m s b (Recovery.refused n) r e =
     by-cases (eqb (r .number) 0)
     (λ q. let y = rw q at e in let z : _≡_ {A = ℕ} 0 1 = cc in absurd (omega arith))
     (λ q. rw q)
-recovers m s (Recovery.recovered log h) r e =
+recovers m s b (Recovery.recovered log h) r e =
     by-cases (eqb (r .number) 0)
     (λ q. let y = rw q at e in let z : meaning (r .state) ≡ h = cc in rw (q, z))
     (λ q. let y = rw q at e in let z : _≡_ {A = ℕ} 0 1 = cc in absurd (omega arith))
 
 -- a cut inside a step
-cuts : (w : World) (left : List ℕ) (t : Step) → reached.CutOf (w .medium) t left → world left none ≡ cutShort w left t .after
+cuts : (w : World) (left : List ℕ) (t : Step) → reached.CutOf (w .medium) t left → world left none fresh ≡ cutShort w left t .after
 unfolding cutShort reached.CutOf
 cuts w left (Step.refused n) a = absurd a
 cuts w left (Step.program p pg after finished) a = refl
@@ -113,19 +120,37 @@ cuts w left (Step.erase b after finished) a = refl
 -- the machine moves as the world does
 pub moves : (x y : Machine) (e : Event (worldOf x)) → Moves x e y → worldOf y ≡ happen (worldOf x) e .after
 unfolding happen withState meant stepDue
-moves x y e (Moves.append m s ks ws narrow small r p) = begins m s _ _ r p
-moves x y e (Moves.commit m s r p) = begins m s _ _ r p
-moves x y e (Moves.collect m s b r p) = begins m s _ _ r p
-moves x y e (Moves.step m m′ s r p) = steps m m′ s _ r p
-moves x y e (Moves.recover m s r p) = recovers m s _ r p
+moves x y e (Moves.append m s b ks ws narrow small r p) = begins m s b _ _ r p
+moves x y e (Moves.commit m s b r p) = begins m s b _ _ r p
+moves x y e (Moves.collect m s b k r p) = begins m s b _ _ r p
+moves x y e (Moves.buffer m s b ks ws narrow small r b′ p) = fills m s b _ _ r b′ p
+moves x y e (Moves.flush m s b r p) = begins m s b _ _ r p
+moves x y e (Moves.step m m′ s b b′ r p) = steps m m′ s b b′ _ r (p .does) (p .leaves)
+moves x y e (Moves.recover m s b r p) = recovers m s b _ r p
 moves x y e (Moves.read z) = refl
-moves x y e (Moves.cut m s) = refl
-moves x y e (Moves.cutInside m left s allowed) = cuts (world m (some (meaning s))) left _ allowed
+moves x y e (Moves.cut m s b) = refl
+moves x y e (Moves.cutInside m left s b allowed) = cuts (world m (some (meaning s)) b) left _ allowed
 
 -- ---- what the answers say
 
+-- a refusal of the buffer's call has a number
+unfoldable numbered : Buffering → Bool
+numbered (Buffering.refused n) = not (eqb n 0)
+numbered (Buffering.buffered b) = true
+
+all-numbered : (cs : List Need) (c : Buffering) → numbered c ≡ true → all (λ x. not (eqb (x .number) 0)) cs ≡ true → numbered (checked Buffering.refused cs c) ≡ true
+unfolding checked
+all-numbered [] c k a = k
+all-numbered (x ∷ xs) c k a =
+    by-cases (x .holds) (λ q. rw q (all-numbered xs c k (all-tail (λ (y : Need). not (eqb (y .number) 0)) x xs a)))
+    (λ q. rw q (unfold numbered in all-head (λ (y : Need). not (eqb (y .number) 0)) x xs a))
+
+buffer-numbered : (n : ℕ) (v : List View) (s : Held) (b ks ws : List ℕ) → numbered (bufferOf n v s b ks ws) ≡ true
+unfolding bufferOf
+buffer-numbered n v s b ks ws = all-numbered (bufferNeeds n v s b ks ws) _ (unfold numbered in refl) (unfold all in refl)
+
 -- what a call that begins an operation says
-begins-told : (w : World) (s : State) (t : Told) (c : Call) (r : Begun) → begun.toldOf r ≡ begun.given s c → begunBy r t ≡ called w t c .told
+begins-told : (w : World) (s : State) (t : Told) (c : Call) (r : Begun) → begun.toldOf r ≡ begun.given s c → begunBy (r .number) t ≡ called w t c .told
 unfolding called begun.toldOf begunBy
 begins-told w s t (Call.refused n) r e =
     by-cases (eqb (r .number) 0)
@@ -135,6 +160,12 @@ begins-told w s t (Call.begun h) r e =
     by-cases (eqb (r .number) 0)
     (λ q. rw q)
     (λ q. let y = rw q at e in let z : _≡_ {A = ℕ} 0 1 = cc in absurd (omega arith))
+
+-- what a call that puts a group into the buffer says: a refusal's number is not 0
+fills-told : (w : World) (b : List ℕ) (t : Told) (c : Buffering) (r : ℕ) (b′ : List ℕ) → numbered c ≡ true → begun.filled r b′ ≡ begun.filledBy b c → begunBy r t ≡ filled w t c .told
+unfolding filled begunBy numbered
+fills-told w b t (Buffering.refused n) r b′ k e = let z : r ≡ n = ap (λ (x : begun.Filled). x .number) e in rw (z, not-true (eqb n 0) k)
+fills-told w b t (Buffering.buffered c) r b′ k e = let z : r ≡ 0 = ap (λ (x : begun.Filled). x .number) e in rw z
 
 -- what a step's answer says, of what was touched and whether it finished
 unfoldable toldDone : Option outcomes.Done → Told
@@ -215,30 +246,34 @@ recovers-accepted (Recovery.recovered log h) r e =
 -- what the history is told by the answers is what it is told by the definitions
 pub answers-told : (x y : Machine) (e : Event (worldOf x)) (v : Moves x e y) → toldBy x y e v ≡ happen (worldOf x) e .told
 unfolding happen withState meant stepDue toldBy
-answers-told x y e (Moves.append m s ks ws narrow small r p) = begins-told _ s _ _ r p
-answers-told x y e (Moves.commit m s r p) = begins-told _ s _ _ r p
-answers-told x y e (Moves.collect m s b r p) = begins-told _ s _ _ r p
-answers-told x y e (Moves.step m m′ s r p) = steps-told m m′ s _ r p _
-answers-told x y e (Moves.recover m s r p) = recovers-told _ _ r p
+answers-told x y e (Moves.append m s b ks ws narrow small r p) = begins-told _ s _ _ r p
+answers-told x y e (Moves.commit m s b r p) = begins-told _ s _ _ r p
+answers-told x y e (Moves.collect m s b k r p) = begins-told _ s _ _ r p
+answers-told x y e (Moves.buffer m s b ks ws narrow small r b′ p) = fills-told _ b _ _ r b′ (buffer-numbered (length m) (views m) (meaning s) b ks ws) p
+answers-told x y e (Moves.flush m s b r p) = begins-told _ s _ _ r p
+answers-told x y e (Moves.step m m′ s b b′ r p) = steps-told m m′ s _ r (p .does) _
+answers-told x y e (Moves.recover m s b r p) = recovers-told _ _ r p
 answers-told x y e (Moves.read z) = refl
-answers-told x y e (Moves.cut m s) = refl
-answers-told x y e (Moves.cutInside m left s allowed) = refl
+answers-told x y e (Moves.cut m s b) = refl
+answers-told x y e (Moves.cutInside m left s b allowed) = refl
 
 -- and so for what may stand in formatting, and for the step that finishes it
 pub answers-meanwhile : (x y : Machine) (e : Event (worldOf x)) (v : Moves x e y) → meanwhileBy x y e v ≡ meanwhile (worldOf x) e
 unfolding meanwhile withState meant stepDue meanwhileBy
-answers-meanwhile x y e (Moves.append m s ks ws narrow small r p) = refl
-answers-meanwhile x y e (Moves.commit m s r p) = refl
-answers-meanwhile x y e (Moves.collect m s b r p) = refl
-answers-meanwhile x y e (Moves.step m m′ s r p) = ap not (steps-finished m m′ s _ r p)
-answers-meanwhile x y e (Moves.recover m s r p) = ap not (recovers-accepted _ r p)
+answers-meanwhile x y e (Moves.append m s b ks ws narrow small r p) = refl
+answers-meanwhile x y e (Moves.commit m s b r p) = refl
+answers-meanwhile x y e (Moves.collect m s b k r p) = refl
+answers-meanwhile x y e (Moves.buffer m s b ks ws narrow small r b′ p) = refl
+answers-meanwhile x y e (Moves.flush m s b r p) = refl
+answers-meanwhile x y e (Moves.step m m′ s b b′ r p) = ap not (steps-finished m m′ s _ r (p .does))
+answers-meanwhile x y e (Moves.recover m s b r p) = ap not (recovers-accepted _ r p)
 answers-meanwhile x y e (Moves.read z) = refl
-answers-meanwhile x y e (Moves.cut m s) = refl
-answers-meanwhile x y e (Moves.cutInside m left s allowed) = refl
+answers-meanwhile x y e (Moves.cut m s b) = refl
+answers-meanwhile x y e (Moves.cutInside m left s b allowed) = refl
 
 pub answers-finished : (x y : Machine) (v : Moves x Event.step y) → finishedBy x y v ≡ finishes (stepDue (worldOf x))
 unfolding withState meant stepDue finishedBy
-answers-finished x y (Moves.step m m′ s r p) = steps-finished m m′ s _ r p
+answers-finished x y (Moves.step m m′ s b b′ r p) = steps-finished m m′ s _ r (p .does)
 
 -- ---- lists of events
 
@@ -253,13 +288,13 @@ there P x y e v p = subst P (sym (moves x y e v)) p
 
 formatting : (x : Machine) → Formatting x → reached.Formatting (worldOf x)
 unfolding meant
-formatting x (Formatting.begun m r b f q) = reached.begun m (meaning (r .state)) b (formats m (formatOf (length m)) r f q)
+formatting x (Formatting.begun m r bs b f q) = reached.begun m (meaning (r .state)) bs b (formats m (formatOf (length m)) r f q)
 formatting x (Formatting.next z y e f v ok) =
     there reached.Formatting z y e v (reached.next (worldOf z) e (formatting z f) (sym (answers-meanwhile z y e v) ∙ ok))
 
 pub runs : (x : Machine) (h : History) → Run x h → reached.Reached (worldOf x) h
 runs x h (Run.start z y f v last) =
-    there (λ w. reached.Reached w noHistory) z y Event.step v (reached.start (worldOf z) (formatting z f) (sym (answers-finished z y v) ∙ last))
+    there (λ w. reached.Reached (lentAnew w) noHistory) z y Event.step v (reached.start (worldOf z) (formatting z f) (sym (answers-finished z y v) ∙ last))
 runs x h (Run.next z y k e r v) =
     subst (λ t. reached.Reached (worldOf y) (tell k t)) (sym (answers-told z y e v))
     (there (λ w. reached.Reached w (tell k (happen (worldOf z) e .told))) z y e v (reached.next (worldOf z) k e (runs z k r)))
@@ -267,7 +302,7 @@ runs x h (Run.next z y k e r v) =
 -- ---- what the program is handed
 
 -- a reached medium and the state recovered from it pass 1 and 7
-module _ (m : List ℕ) (s : Held) (a : Answers m s) where
+module _ (m : List ℕ) (s : Held) (bs : List ℕ) (a : Answers m s bs) where
   size-met : sizeOk (length m) ≡ true
   unfolding pickOf checked
   size-met = by-cases (sizeOk (length m)) (λ q. q) (λ q. absurd (a .pick 1 (rw q)))
@@ -320,20 +355,20 @@ module _ (w : World) (h : History) (R : reached.Reached w h) (S : Shows (w .medi
   log-shown ks ws = ap (readInto ks ws) (S .accepts) ∙ ap (λ (l : List (List Entry)). filed ks ws (changesOf l)) (S .same-log)
 
   -- the list with this recovery is one more
-  after : happen w Event.recover .after ≡ world (w .medium) (some (S .state))
+  after : happen w Event.recover .after ≡ world (w .medium) (some (S .state)) fresh
   unfolding happen recovered
   after = ap (λ (t : Recovery). recovered w t .after) (S .accepts)
 
-  answers : Answers (w .medium) (S .state)
+  answers : Answers (w .medium) (S .state) fresh
   unfolding Steady
   answers =
-      steady (world (w .medium) (some (S .state))) (tell h (happen w Event.recover .told)) (S .state)
+      steady (world (w .medium) (some (S .state)) fresh) (tell h (happen w Event.recover .told)) (S .state)
       (subst (λ x. reached.Reached x (tell h (happen w Event.recover .told))) after (reached.next w h Event.recover R)) refl
 
   valve-shown : (valve : ℕ) → openingOf (length (w .medium)) (views (w .medium)) (S .state) valve ≡ openingIn (lookup valve (h .settings))
   valve-shown valve =
-      opens (length (w .medium)) (views (w .medium)) (S .state) valve (lookup valve (S .state .index)) _ (size-met (w .medium) (S .state) answers)
-      (fit-met (w .medium) (S .state) answers) refl refl ∙ words-open (views (w .medium)) valve (S .same-settings)
+      opens (length (w .medium)) (views (w .medium)) (S .state) valve (lookup valve (S .state .index)) _ (size-met (w .medium) (S .state) fresh answers)
+      (fit-met (w .medium) (S .state) fresh answers) refl refl ∙ words-open (views (w .medium)) valve (S .same-settings)
 
   handed : Handed (w .medium) h
   handed =

@@ -16,15 +16,15 @@ use Rattle.lists.specs.Cells.{cell, pairs, listed, keysOf, wordsOf}
 use Rattle.lists.proofs.Laws.{by-cases, length-table, get-table, length-first, get-first, key-at, word-at}
 use Rattle.flash.specs.Medium.{views}
 use Rattle.state.specs.declared.State.{State}
-use Rattle.state.specs.State.{Pending, idle, append, commit, collect, format, unnamed, Held, held, wasErased, pendingOf, recordsOf, meaning}
+use Rattle.state.specs.State.{Pending, idle, append, commit, collect, format, flush, unnamed, Held, held, wasErased, pendingOf, recordsOf, meaning}
 use Rattle.state.proofs.Records.{records-length, record-is}
-use Rattle.step.specs.Step.{Step, stepOf, mediumAfter}
+use Rattle.step.specs.Step.{Step, stepOf, mediumAfter, bufferAfter}
 use Rattle.begin.specs.declared.Begun.{Begun}
 use Rattle.begin.specs.Begun as begun
 use Rattle.advance.specs.declared.Stepped.{Stepped}
 use Rattle.advance.specs.Outcomes.{page, block, pageDone, doneOf, touchedBy, outcome, done, performed}
 use Rattle.valve_log.specs.History.{start as noHistory}
-use Rattle.valve_log.specs.Reached.{World, world, withState, stepDue, Event, happen, finishes, meanwhile}
+use Rattle.valve_log.specs.Reached.{World, world, fresh, withState, stepDue, Event, happen, finishes, meanwhile}
 use Rattle.valve_log.specs.Finished.{stepsOn, Finished, FormattingFinishes}
 use Rattle.valve_log.specs.Weak.{Weak, afterErase}
 use Rattle.valve_log.proofs.Finished.{formatting-finishes}
@@ -51,7 +51,7 @@ module _ (r : Begun) (h : Held) (e : begun.formattedOf r ≡ begun.Formatted.rea
 
 module _ (m : List ℕ) (bytes : Bytes m) (F : Finished m) where
   abbrev worldAt : ℕ → World
-  worldAt n = stepsOn n (world m (some (F .state)))
+  worldAt n = stepsOn n (world m (some (F .state)) fresh)
 
   -- after n steps formatting is under way, in the world that the definitions lead to
   record Way (n : ℕ) (x : Machine) : Type 0 where
@@ -67,29 +67,29 @@ module _ (m : List ℕ) (bytes : Bytes m) (F : Finished m) where
   way n x (Formatted.begun r p) h =
       let e : begun.formattedOf r ≡ begun.Formatted.ready (F .state) = p ∙ ap begun.asFormatted (F .begun) in
       record {
-        under-way = Formatting.begun m r bytes p (format-number r (F .state) e);
-        is = ap (λ (s : Held). world m (some s)) (format-state r (F .state) e);
+        under-way = Formatting.begun m r fresh bytes p (format-number r (F .state) e);
+        is = ap (λ (s : Held). world m (some s) fresh) (format-state r (F .state) e);
       }
-  way n x (Formatted.step k now after s r G p) h =
-      let W = way k (machine now (some s)) G (omega arith) in
-      let v : Moves (machine now (some s)) Event.step (machine after (some (r .state))) = Moves.step now after s r p in
+  way n x (Formatted.step k now after b b′ s r G p) h =
+      let W = way k (machine now (some s) b) G (omega arith) in
+      let v : Moves (machine now (some s) b) Event.step (machine after (some (r .state)) b′) = Moves.step now after s b b′ r p in
       record {
         under-way =
-            Formatting.next (machine now (some s)) (machine after (some (r .state))) Event.step (W .under-way) v
-            (answers-meanwhile (machine now (some s)) (machine after (some (r .state))) Event.step v ∙ stands k (machine now (some s)) (W .is) (omega arith));
+            Formatting.next (machine now (some s) b) (machine after (some (r .state)) b′) Event.step (W .under-way) v
+            (answers-meanwhile (machine now (some s) b) (machine after (some (r .state)) b′) Event.step v ∙ stands k (machine now (some s) b) (W .is) (omega arith));
         is =
-            moves (machine now (some s)) (machine after (some (r .state))) Event.step v
+            moves (machine now (some s) b) (machine after (some (r .state)) b′) Event.step v
             ∙ ap (λ (w : World). happen w Event.step .after) (W .is);
       }
 
-  runs-then : (n : ℕ) (x : Machine) → Formatted m n x → n ≡ suc (length m / 4096) → Run x noHistory
+  runs-then : (n : ℕ) (x : Machine) → Formatted m n x → n ≡ suc (length m / 4096) → Run (machine (x .medium) (x .state) fresh) noHistory
   runs-then n x (Formatted.begun r p) e = absurd (omega arith)
-  runs-then n x (Formatted.step k now after s r G p) e =
+  runs-then n x (Formatted.step k now after b b′ s r G p) e =
       let q : k ≡ length m / 4096 = omega arith in
-      let W = way k (machine now (some s)) G (omega arith) in
-      let v : Moves (machine now (some s)) Event.step (machine after (some (r .state))) = Moves.step now after s r p in
-      Run.start (machine now (some s)) (machine after (some (r .state))) (W .under-way) v
-      (answers-finished (machine now (some s)) (machine after (some (r .state))) v
+      let W = way k (machine now (some s) b) G (omega arith) in
+      let v : Moves (machine now (some s) b) Event.step (machine after (some (r .state)) b′) = Moves.step now after s b b′ r p in
+      Run.start (machine now (some s) b) (machine after (some (r .state)) b′) (W .under-way) v
+      (answers-finished (machine now (some s) b) (machine after (some (r .state)) b′) v
       ∙ ap (λ (w : World). finishes (stepDue w)) (W .is ∙ ap worldAt q) ∙ F .last)
 
 -- ---- answers that meet the promises
@@ -117,7 +117,8 @@ operationOf (append es ps) = 1
 operationOf (commit k) = 2
 operationOf (collect b) = 3
 operationOf (format n) = 4
-operationOf unnamed = 5
+operationOf flush = 5
+operationOf unnamed = 6
 
 unfoldable progressOf : Pending → ℕ
 progressOf idle = 0
@@ -125,6 +126,7 @@ progressOf (append es ps) = length ps
 progressOf (commit k) = k
 progressOf (collect b) = b
 progressOf (format n) = n
+progressOf flush = 0
 progressOf unnamed = 0
 
 unfoldable groupOf : Pending → List Cell
@@ -133,6 +135,7 @@ groupOf (append es ps) = es
 groupOf (commit k) = []
 groupOf (collect b) = []
 groupOf (format n) = []
+groupOf flush = []
 groupOf unnamed = []
 
 unfoldable pagesOf : Pending → List ℕ
@@ -141,6 +144,7 @@ pagesOf (append es ps) = ps
 pagesOf (commit k) = []
 pagesOf (collect b) = []
 pagesOf (format n) = []
+pagesOf flush = []
 pagesOf unnamed = []
 
 pending-same : (p : Pending) → pendingOf (operationOf p) (progressOf p) (cellsOf (groupOf p)) (pagesOf p) ≡ p
@@ -150,6 +154,7 @@ pending-same (append es ps) = ap (λ (l : List Cell). append l (first 0 (length 
 pending-same (commit k) = refl
 pending-same (collect b) = refl
 pending-same (format n) = refl
+pending-same flush = refl
 pending-same unnamed = refl
 
 -- records of erased blocks, in numbers
@@ -224,10 +229,11 @@ answered m s (Step.erase b h finished) weak C f =
 module _ (m : List ℕ) (bytes : Bytes m) (F : Finished m) where
   record There (n : ℕ) : Type 0 where
     pub now : List ℕ
+    pub buffer : List ℕ
     pub state : State
     pub weak : Weak
     pub guard : Guard weak (meaning state)
-    pub formatted : Formatted m n (machine now (some state))
+    pub formatted : Formatted m n (machine now (some state) buffer)
 
   begun-there : There 0
   unfolding begun.toldOf
@@ -235,6 +241,7 @@ module _ (m : List ℕ) (bytes : Bytes m) (F : Finished m) where
       let S = standing (λ b. true) (F .state) (begun-guard (λ b. true) (length m) (F .state) (F .begun)) in
       record {
         now = m;
+        buffer = fresh;
         state = stateOf (F .state);
         weak = S .weak;
         guard = S .guard;
@@ -243,25 +250,26 @@ module _ (m : List ℕ) (bytes : Bytes m) (F : Finished m) where
             (ap begun.Formatted.ready (S .is) ∙ sym (ap begun.asFormatted (F .begun)));
       }
 
-  due-accepted : (n : ℕ) (now : List ℕ) (s : State) → worldOf (machine now (some s)) ≡ worldAt m bytes F n → n ≤ length m / 4096
-      → (k : ℕ) → stepOf (length now) (views now) (meaning s) ≡ Step.refused k → ⊥
+  due-accepted : (n : ℕ) (now b : List ℕ) (s : State) → worldOf (machine now (some s) b) ≡ worldAt m bytes F n → n ≤ length m / 4096
+      → (k : ℕ) → stepOf (length now) (views now) (meaning s) b ≡ Step.refused k → ⊥
   unfolding stepDue withState meant
-  due-accepted n now s e h k q = F .accepted n k h (sym (ap stepDue e) ∙ q)
+  due-accepted n now b s e h k q = F .accepted n k h (sym (ap stepDue e) ∙ q)
 
   there : (n : ℕ) → n ≤ suc (length m / 4096) → There n
   there zero h = begun-there
   there (suc n) h =
       let T = there n (omega arith) in
-      let W = way m bytes F n (machine (T .now) (some (T .state))) (T .formatted) (omega arith) in
-      let t = stepOf (length (T .now)) (views (T .now)) (meaning (T .state)) in
-      let C = step-careful (T .weak) (T .now) (meaning (T .state)) (T .guard) in
-      let A = answered (T .now) (T .state) t (T .weak) C (due-accepted n (T .now) (T .state) (W .is) (omega arith)) in
+      let W = way m bytes F n (machine (T .now) (some (T .state)) (T .buffer)) (T .formatted) (omega arith) in
+      let t = stepOf (length (T .now)) (views (T .now)) (meaning (T .state)) (T .buffer) in
+      let C = step-careful (T .weak) (T .now) (meaning (T .state)) (T .buffer) (T .guard) in
+      let A = answered (T .now) (T .state) t (T .weak) C (due-accepted n (T .now) (T .buffer) (T .state) (W .is) (omega arith)) in
       record {
         now = mediumAfter (T .now) t;
+        buffer = bufferAfter (T .buffer) t;
         state = A .answer .state;
         weak = A .weak;
         guard = A .guard;
-        formatted = Formatted.step n (T .now) (mediumAfter (T .now) t) (T .state) (A .answer) (T .formatted) (A .meets);
+        formatted = Formatted.step n (T .now) (mediumAfter (T .now) t) (T .buffer) (bufferAfter (T .buffer) t) (T .state) (A .answer) (T .formatted) (record { does = A .meets; leaves = refl });
       }
 
 pub runs-start : RunsStart
@@ -271,6 +279,6 @@ runs-start m bytes size =
     let T = there m bytes F (suc (length m / 4096)) (omega arith) in
     record {
       whatever = λ x G. runs-then m bytes F (suc (length m / 4096)) x G refl;
-      then = machine (T .now) (some (T .state));
+      then = machine (T .now) (some (T .state)) (T .buffer);
       answered = T .formatted;
     }

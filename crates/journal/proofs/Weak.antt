@@ -25,11 +25,11 @@ use Rattle.journal.proofs.Chain.{formats, moves}
 -- ---- what the state knows of weak blocks, along the run
 
 moves-kept : (weak : Weak) (x y : Machine) (e : Event (worldOf x)) → Moves x e y → Kept weak (meant (x .state)) → Kept (weakAfter (worldOf x) e weak) (meant (y .state))
-moves-kept weak x y e v K = subst (λ (w : World). Kept (weakAfter (worldOf x) e weak) (w .state)) (sym (moves x y e v)) (event-kept weak (x .medium) (meant (x .state)) e K)
+moves-kept weak x y e v K = subst (λ (w : World). Kept (weakAfter (worldOf x) e weak) (w .state)) (sym (moves x y e v)) (event-kept weak (x .medium) (meant (x .state)) (x .buffer) e K)
 
 format-kept : (weak : Weak) (x : Machine) (F : Formatting x) → Kept (weakInFormat weak x F) (meant (x .state))
 unfolding weakInFormat meant Kept
-format-kept weak x (Formatting.begun m r b f q) = begun-guard weak (length m) (meaning (r .state)) (formats m (formatOf (length m)) r f q)
+format-kept weak x (Formatting.begun m r bs b f q) = begun-guard weak (length m) (meaning (r .state)) (formats m (formatOf (length m)) r f q)
 format-kept weak x (Formatting.next z y e F v k) = moves-kept (weakInFormat weak z F) z y e v (format-kept weak z F)
 
 run-kept : (weak : Weak) (x : Machine) (h : History) (R : Run x h) → Kept (weakIn weak x h R) (meant (x .state))
@@ -54,12 +54,13 @@ told-page : (r : Stepped) → r .number ≡ 0 → r .touched ≡ 1 → doneOf r 
 unfolding doneOf touchedBy
 told-page r n t = rw (eq-eqb (r .number) 0 n, eq-eqb (r .touched) 1 t)
 
-step-strong : (weak : Weak) (m : List ℕ) (o : Option State) (s : State) (r : Stepped) (after : List ℕ) → Kept weak (meant o) → o ≡ some s → Steps m s r after → r .number ≡ 0 → r .touched ≡ 1 → weak (r .at / 16) ≡ false
+step-strong : (weak : Weak) (m : List ℕ) (o : Option State) (s : State) (bs : List ℕ) (r : Stepped) (after left : List ℕ) → Kept weak (meant o) → o ≡ some s → Steps m s bs r after left → r .number ≡ 0
+    → r .touched ≡ 1 → weak (r .at / 16) ≡ false
 unfolding performed
-step-strong weak m o s r after K e w n t =
-    let d : doneOf r ≡ some (done s (stepOf (length m) (views m) (meaning s))) = ap (λ (x : Outcome). x .done) w in
-    let q : page (r .at) (r .finished) (meaning (r .state)) ≡ done s (stepOf (length m) (views m) (meaning s)) = same (sym (told-page r n t) ∙ d) in
-    page-careful weak s (stepOf (length m) (views m) (meaning s)) (r .at) (r .finished) (meaning (r .state)) q (step-careful weak m (meaning s) (kept-guard weak o s e K))
+step-strong weak m o s bs r after left K e w n t =
+    let d : doneOf r ≡ some (done s (stepOf (length m) (views m) (meaning s) bs)) = ap (λ (x : Outcome). x .done) (w .does) in
+    let q : page (r .at) (r .finished) (meaning (r .state)) ≡ done s (stepOf (length m) (views m) (meaning s) bs) = same (sym (told-page r n t) ∙ d) in
+    page-careful weak s (stepOf (length m) (views m) (meaning s) bs) (r .at) (r .finished) (meaning (r .state)) q (step-careful weak m (meaning s) bs (kept-guard weak o s e K))
   where
     same : {A : Type 0} {x y : A} → some x ≡ some y → x ≡ y
     same k = cc
@@ -67,6 +68,6 @@ step-strong weak m o s r after K e w n t =
 pub never-weak-of-code : NeverWeakOfCode
 never-weak-of-code =
     record {
-      in-format = λ weak x F s r after. step-strong (weakInFormat weak x F) (x .medium) (x .state) s r after (format-kept weak x F);
-      in-run = λ weak x h R s r after. step-strong (weakIn weak x h R) (x .medium) (x .state) s r after (run-kept weak x h R);
+      in-format = λ weak x F s r after left. step-strong (weakInFormat weak x F) (x .medium) (x .state) s (x .buffer) r after left (format-kept weak x F);
+      in-run = λ weak x h R s r after left. step-strong (weakIn weak x h R) (x .medium) (x .state) s (x .buffer) r after left (run-kept weak x h R);
     }

@@ -14,17 +14,18 @@ use Rattle.begin.specs.Begun.{Formats}
 use Rattle.advance.specs.declared.Stepped.{Stepped}
 use Rattle.advance.specs.Outcomes.{Steps}
 use Rattle.valve_log.specs.History.{start as noHistory}
+use Rattle.valve_log.specs.Reached.{fresh}
 use Rattle.journal.specs.Run.{Machine, machine, Run}
 
--- format called on medium m, then step n times, with their answers, of which nothing is known but the promise
+-- format called on medium m, then step n times, lent an empty buffer at first, with their answers, of which nothing is known but the promise
 pub data Formatted (m : List ℕ) : ℕ → Machine → Type 0 where
-  begun : (r : Begun) → Formats m r → Formatted m 0 (machine m (some (r .state)))
-  step : (n : ℕ) (now after : List ℕ) (s : State) (r : Stepped) → Formatted m n (machine now (some s)) → Steps now s r after
-      → Formatted m (suc n) (machine after (some (r .state)))
+  begun : (r : Begun) → Formats m r → Formatted m 0 (machine m (some (r .state)) fresh)
+  step : (n : ℕ) (now after b b′ : List ℕ) (s : State) (r : Stepped) → Formatted m n (machine now (some s) b) → Steps now s b r after b′
+      → Formatted m (suc n) (machine after (some (r .state)) b′)
 
 -- Whatever these calls answer, a run has started; and there are structs that meet the promises, so that this speaks of something.
 pub record Started (m : List ℕ) : Type 0 where
-  pub whatever : (x : Machine) → Formatted m (suc (length m / 4096)) x → Run x noHistory
+  pub whatever : (x : Machine) → Formatted m (suc (length m / 4096)) x → Run (machine (x .medium) (x .state) fresh) noHistory
   pub then : Machine
   pub answered : Formatted m (suc (length m / 4096)) then
 

@@ -14,7 +14,7 @@ use Rattle.journal.specs.Run.{Machine, worldOf, Formatting, Run}
 
 -- the weak blocks along formatting, of those that were weak where it began
 unfoldable pub weakInFormat : Weak → (x : Machine) → Formatting x → Weak
-weakInFormat weak x (Formatting.begun m r bytes told accepted) = weak
+weakInFormat weak x (Formatting.begun m r b bytes told accepted) = weak
 weakInFormat weak x (Formatting.next z y e F v k) = weakAfter (worldOf z) e (weakInFormat weak z F)
 
 -- and along the run that it starts
@@ -25,7 +25,7 @@ weakIn weak x h (Run.next z y k e R v) = weakAfter (worldOf z) e (weakIn weak z 
 -- Whatever a step answers, of which nothing is known but the promise: where it tells of a page (1 in `touched`), that page's block is not
 -- weak; whichever blocks were where formatting began.
 pub record NeverWeakOfCode : Type 0 where
-  pub in-format : (weak : Weak) (x : Machine) (F : Formatting x) (s : State) (r : Stepped) (after : List ℕ)
-      → x .state ≡ some s → Steps (x .medium) s r after → r .number ≡ 0 → r .touched ≡ 1 → weakInFormat weak x F (r .at / 16) ≡ false
-  pub in-run : (weak : Weak) (x : Machine) (h : History) (R : Run x h) (s : State) (r : Stepped) (after : List ℕ)
-      → x .state ≡ some s → Steps (x .medium) s r after → r .number ≡ 0 → r .touched ≡ 1 → weakIn weak x h R (r .at / 16) ≡ false
+  pub in-format : (weak : Weak) (x : Machine) (F : Formatting x) (s : State) (r : Stepped) (after buffer : List ℕ)
+      → x .state ≡ some s → Steps (x .medium) s (x .buffer) r after buffer → r .number ≡ 0 → r .touched ≡ 1 → weakInFormat weak x F (r .at / 16) ≡ false
+  pub in-run : (weak : Weak) (x : Machine) (h : History) (R : Run x h) (s : State) (r : Stepped) (after buffer : List ℕ)
+      → x .state ≡ some s → Steps (x .medium) s (x .buffer) r after buffer → r .number ≡ 0 → r .touched ≡ 1 → weakIn weak x h R (r .at / 16) ≡ false

@@ -1,6 +1,8 @@
-// Makes the small example of each number in 01's table of refusals, and prints what the call answered.
+// Makes the small example of each number in the papers' tables of refusals, and prints what the call answered.
 use trials::APPEND;
 use trials::APPENDED;
+use trials::BUFFER;
+use trials::BUFFER_VALVES;
 use trials::BYTE;
 use trials::COLLECT;
 use trials::COMMIT;
@@ -50,7 +52,7 @@ fn bases() {
 fn other_medium() {
     let mut m = [255u8; 16384];
     let t = trials::play(&mut m, &[FORMATTED]);
-    let b = begin::commit(&[255u8; 20480], t.state);
+    let b = begin::commit(&[255u8; 20480], t.state, &[255u8; 256]);
     show::answer(b"7 state of 4 blocks, medium of 5: ", b.number);
 }
 
@@ -107,6 +109,19 @@ fn unset_valve() {
     show::answer(b"18 valve 5 after format: ", r.number);
 }
 
+// 23: a group that the write buffer has no places for. 24: a commit while it holds one.
+fn buffers() {
+    say(b"23 17 entries: ", &[FORMATTED, BUFFER_VALVES, 17, 0]);
+    say(
+        b"23 3 entries, 14 buffered: ",
+        &[FORMATTED, BUFFER_VALVES, 14, 0, BUFFER_VALVES, 3, 14],
+    );
+    say(
+        b"24 commit, a group buffered: ",
+        &[FORMATTED, BUFFER, 1, 5, 1000, COMMIT],
+    );
+}
+
 fn main() {
     three_blocks();
     pages();
@@ -118,4 +133,5 @@ fn main() {
     damage();
     short_lists();
     unset_valve();
+    buffers();
 }

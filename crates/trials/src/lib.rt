@@ -1,4 +1,4 @@
-// Calls of the journal as a list of numbers, played on a lent medium, for the programs that run 01's examples.
+// Calls of the journal as a list of numbers, played on a lent medium and write buffer, for the programs that run the papers' examples.
 ghost use mathlib.Core.Path.{_≡_};
 ghost use Prim.Native.Nat.{_<_, _≤_};
 ghost use lib.ListN.{length};
@@ -24,8 +24,11 @@ pub const STEP: u64 = 5;
 // Recovery: its state takes the place of the last.
 pub const RECOVER: u64 = 7;
 
-// VALVES, n, low: an append begins that sets n valves from `low` on to 0.
-pub const VALVES: u64 = 8;
+// BUFFER, n, n keys, n words: a group is put into the write buffer, of 97 entries at most.
+pub const BUFFER: u64 = 8;
+
+// A flush begins.
+pub const FLUSH: u64 = 9;
 
 // A code that is 10 more is the call with its steps until the operation is over, 20 at most: formatting of 16 blocks takes 17. Here formatting.
 pub const FORMATTED: u64 = 11;
@@ -39,14 +42,23 @@ pub const COMMITTED: u64 = 13;
 // A collection.
 pub const COLLECTED: u64 = 14;
 
-// Valves set to 0.
-pub const SET: u64 = 18;
+// A flush.
+pub const FLUSHED: u64 = 19;
 
 // BYTE, at, value: a byte of the medium changes.
 pub const BYTE: u64 = 20;
 
 // PUT, page, kind, serial, n, word: a page is programmed that begins and ends a group, of n entries, 0 or 1, that set valve 5.
 pub const PUT: u64 = 30;
+
+// A code that is 40 more has n and `low` in place of keys and words: n valves from `low` on, set to 0. Here an append begins.
+pub const VALVES: u64 = 42;
+
+// They are put into the write buffer.
+pub const BUFFER_VALVES: u64 = 48;
+
+// An append of them, with its steps.
+pub const SET: u64 = 52;
 
 // How the last call of a list went: the number that refused it, or 0; the steps it tried; the page or block that the last of them touched; and
 // the state.
@@ -69,18 +81,15 @@ fn at(calls: &[u64], i: usize) -> u64 {
 fn numbers(code: u64, n: u64) -> usize
     ensures { λ r. ⌜ r ≤ 195 ⌝ }
 {
+    if code == BYTE || 40 <= code {
+        return 2;
+    }
     let call = code % 10;
-    if call == APPEND {
+    if call == APPEND || call == BUFFER {
         return 1 + 2 * ((n % 98) as usize);
     }
     if call == COLLECT {
         return 1;
-    }
-    if call == VALVES {
-        return 2;
-    }
-    if code == BYTE {
-        return 2;
     }
     if code == PUT {
         return 5;
@@ -100,17 +109,17 @@ fn end(calls: &[u64], i: usize) -> usize
     calls.len()
 }
 
-// Key i of an append.
+// Key i of a group.
 fn key(call: &[u64], i: usize) -> u16
     requires { ⌜ i < 97 ⌝ }
 {
-    if at(call, 0) % 10 == VALVES {
+    if 40 <= at(call, 0) {
         return ((at(call, 2) % 32768) as u16) + (i as u16);
     }
     (at(call, 2 + i) % 65536) as u16
 }
 
-// The keys of an append.
+// The keys of a group.
 fn keys(call: &[u64]) -> [u16; 97]
     ensures { λ r. ⌜ length r ≡ 97 ⌝ }
 {
@@ -123,7 +132,7 @@ fn keys(call: &[u64]) -> [u16; 97]
     all
 }
 
-// The words of an append of n entries; those that the call lacks are 0.
+// The words of a group of n entries; those that the call lacks are 0.
 fn words(call: &[u64], n: usize) -> [u64; 97]
     requires { ⌜ n ≤ 97 ⌝ }
     ensures { λ r. ⌜ length r ≡ 97 ⌝ }
@@ -138,12 +147,25 @@ fn words(call: &[u64], n: usize) -> [u64; 97]
 }
 
 // An append.
-fn append(m: &[u8], s: State, call: &[u64], n: usize) -> Begun
+fn append(m: &[u8], s: State, b: &[u8], call: &[u64], n: usize) -> Begun
     requires { ⌜ n ≤ 97 ⌝ }
 {
     let keys = keys(call);
     let words = words(call, n);
-    begin::append(m, s, &keys[..n], &words[..n])
+    begin::append(m, s, b, &keys[..n], &words[..n])
+}
+
+// A group put into the write buffer.
+fn buffer(m: &[u8], s: State, b: &mut [u8], call: &[u64], n: usize) -> Begun
+    requires { ⌜ n ≤ 97 ⌝ }
+{
+    let keys = keys(call);
+    let words = words(call, n);
+    let number = begin::buffer(m, s, b, &keys[..n], &words[..n]);
+    Begun {
+        number: number,
+        state: s,
+    }
 }
 
 // Recovery.
@@ -156,24 +178,52 @@ fn recovered(m: &[u8]) -> Begun {
     }
 }
 
-// A call that begins an operation, or recovery; any other code leaves all as it was.
-fn begun(m: &[u8], number: u8, s: State, call: &[u64]) -> Begun {
-    let code = at(call, 0) % 10;
-    let n = (at(call, 1) % 98) as usize;
+// The write buffer as it is lent after formatting and after recovery.
+fn empty(b: &mut [u8]) {
+    let mut i: usize = 0;
+    while i < b.len() {
+        b[i] = 255;
+        i += 1;
+    }
+}
+
+// Formatting begins or recovery is made; the write buffer is empty then.
+fn started(m: &[u8], b: &mut [u8], code: u64) -> Begun {
+    empty(b);
     if code == FORMAT {
         return begin::format(m);
     }
+    recovered(m)
+}
+
+// A call with a group: an append, or the group put into the write buffer.
+fn grouped(m: &[u8], s: State, b: &mut [u8], call: &[u64], n: usize) -> Begun
+    requires { ⌜ n ≤ 97 ⌝ }
+{
+    if at(call, 0) % 10 == APPEND {
+        return append(m, s, b, call, n);
+    }
+    buffer(m, s, b, call, n)
+}
+
+// A call that begins an operation, recovery, or a group for the write buffer; any other code leaves all as it was.
+fn begun(m: &[u8], number: u8, s: State, b: &mut [u8], call: &[u64]) -> Begun {
+    let code = at(call, 0) % 10;
+    let n = (at(call, 1) % 98) as usize;
+    if code == FORMAT || code == RECOVER {
+        return started(m, b, code);
+    }
     if code == COMMIT {
-        return begin::commit(m, s);
+        return begin::commit(m, s, b);
     }
     if code == COLLECT {
-        return begin::collect(m, s, n);
+        return begin::collect(m, s, b, n);
     }
-    if code == RECOVER {
-        return recovered(m);
+    if code == FLUSH {
+        return begin::flush(m, s, b);
     }
-    if code == APPEND || code == VALVES {
-        return append(m, s, call, n);
+    if code == APPEND || code == BUFFER {
+        return grouped(m, s, b, call, n);
     }
     Begun {
         number: number,
@@ -194,21 +244,22 @@ fn told(b: Begun) -> Trial
     }
 }
 
-// How many steps a code stands for.
-fn steps(code: u64) -> usize
+// How many steps a call stands for.
+fn steps(call: &[u64]) -> usize
     ensures { λ r. ⌜ r ≤ 20 ⌝ }
 {
+    let code = at(call, 0);
     if code == STEP {
         return 1;
     }
-    if code / 10 == 1 {
+    if code / 10 == 1 || code == SET {
         return 20;
     }
     0
 }
 
 // A step after n others; none where one was refused, or where they ended the operation.
-fn go_on(m: &mut [u8], t: Trial, n: usize) -> Trial
+fn go_on(m: &mut [u8], b: &mut [u8], t: Trial, n: usize) -> Trial
     requires { ⌜ n < 20 ⌝ }
 {
     if t.number != 0 {
@@ -220,7 +271,7 @@ fn go_on(m: &mut [u8], t: Trial, n: usize) -> Trial
             return t;
         }
     }
-    let r = advance::step(m, s);
+    let r = advance::step(m, s, b);
     let state = r.state;
     Trial {
         number: r.number,
@@ -231,13 +282,13 @@ fn go_on(m: &mut [u8], t: Trial, n: usize) -> Trial
 }
 
 // At most so many steps.
-fn finish(m: &mut [u8], t: Trial, most: usize) -> Trial
+fn finish(m: &mut [u8], b: &mut [u8], t: Trial, most: usize) -> Trial
     requires { ⌜ most ≤ 20 ⌝ }
 {
     let mut u = t;
     let mut n: usize = 0;
     while n < most {
-        u = go_on(m, u, n);
+        u = go_on(m, b, u, n);
         n += 1;
     }
     u
@@ -275,12 +326,17 @@ fn damage(m: &mut [u8], call: &[u64]) {
     }
 }
 
-// A call, after those that went as t.
-fn made(m: &mut [u8], t: Trial, call: &[u64]) -> Trial {
-    damage(m, call);
+// What a call answers before any step, after those that went as t.
+fn answered(m: &[u8], b: &mut [u8], t: Trial, call: &[u64]) -> Trial {
     let s = t.state;
-    let u = told(begun(m, t.number, s, call));
-    finish(m, u, steps(at(call, 0)))
+    told(begun(m, t.number, s, b, call))
+}
+
+// A call with its steps.
+fn made(m: &mut [u8], b: &mut [u8], t: Trial, call: &[u64]) -> Trial {
+    damage(m, call);
+    let u = answered(m, b, t, call);
+    finish(m, b, u, steps(call))
 }
 
 // The answer before any call: that of a format of no bytes, which is refused.
@@ -290,18 +346,26 @@ fn nothing() -> Trial
     told(begin::format(&[]))
 }
 
-// Each call of a list in turn, also after a refusal. What the state is before the first FORMAT or RECOVER means nothing.
-pub fn play(m: &mut [u8], calls: &[u64]) -> Trial
+// Each call of a list in turn, also after a refusal, with a write buffer. What the state is before the first FORMAT or RECOVER means nothing.
+pub fn play_with(m: &mut [u8], b: &mut [u8], calls: &[u64]) -> Trial
     ensures { λ r. ⌜ Played (now (m .entry)) (now (calls .entry)) r (now (m .exit)) ⌝ }
 {
     let mut t = nothing();
     let mut i: usize = 0;
     while i < calls.len() {
         let e = end(calls, i);
-        t = made(m, t, &calls[i..e]);
+        t = made(m, b, t, &calls[i..e]);
         i = e;
     }
     t
+}
+
+// The same with a write buffer of its own, empty at first.
+pub fn play(m: &mut [u8], calls: &[u64]) -> Trial
+    ensures { λ r. ⌜ Played (now (m .entry)) (now (calls .entry)) r (now (m .exit)) ⌝ }
+{
+    let mut b = [255u8; 256];
+    play_with(m, &mut b, calls)
 }
 
 // The calls that format a medium and append 48 groups of one page to it.

@@ -13,9 +13,9 @@ use Rattle.lists.specs.declared.Cell.{Cell}
 use Rattle.lists.proofs.Laws.{all-weaken, every-at}
 use Rattle.page.specs.Pages.{View, pagesFor}
 use Rattle.index.specs.Index.{rising}
-use Rattle.state.specs.State.{Pending, idle, append, commit, collect, Held, headFit, placeFit, indexFit, pendingFit, basePages, fit}
+use Rattle.state.specs.State.{Pending, idle, append, commit, collect, flush, Held, headFit, placeFit, indexFit, pendingFit, basePages, fit}
 use Rattle.recovery.specs.Recovery.{Placed, Group, between, walk, groupsOf}
-use Rattle.valve_log.specs.History.{UnderWay, appending, committing, collecting, History, history}
+use Rattle.valve_log.specs.History.{UnderWay, appending, committing, collecting, flushing, History, history}
 use Rattle.valve_log.proofs.Index.{valves}
 use Rattle.valve_log.proofs.Groups.{lay, Opened}
 use Rattle.valve_log.proofs.Present.{PresentAll}
@@ -24,7 +24,7 @@ use Rattle.valve_log.proofs.Sound.{Sound}
 
 -- What is pending, beside what the history has under way; `serial` is the state's next serial. An append: its pages left and its pages
 -- written make up its group, and the walk is inside exactly these. A commit: the same with the index as its list, and its pages alone walk
--- as an open base. A collection: nothing more, since condition 7 judges its block at each step.
+-- as an open base. A collection and a flush: nothing more, since condition 7 judges block and buffer at each step.
 pub data Pend (v : List View) (serial : ℕ) (ch : List Placed) (gs : List Group) (idx : List Place) : Pending → UnderWay → Type 0 where
   at-rest : {u : UnderWay} → Pend v serial ch gs idx idle u
   in-append : {es : List Entry} {ps : List ℕ} {left : ℕ} (f : ℕ) → Small es → left + length ps ≡ pagesFor (length es) → f + length ps ≡ serial
@@ -36,6 +36,7 @@ pub data Pend (v : List View) (serial : ℕ) (ch : List Placed) (gs : List Group
       → groupsOf (walk (between []) (lay 2 idx 0 f ps)) ≡ some []
       → Pend v serial ch gs idx (commit k) (committing left)
   in-collect : {b : ℕ} → Pend v serial ch gs idx (collect b) collecting
+  in-flush : {small : List (List Entry)} → Pend v serial ch gs idx flush (flushing small 1)
 
 -- the state is recovery's, with the operation pending
 pub record Alive (v : List View) (s : Held) (u : UnderWay) (b : ℕ) (ch : List Placed) (gs : List Group) (idx : List Place) : Type 0 where
@@ -57,7 +58,7 @@ pub record Coupled (v : List View) (s : Option Held) (h : History) : Type 0 wher
   pub memory : Memory v (h .underWay) b ch gs idx s
 
 -- the state is lost; what the history has under way does not matter then
-pub forget : {v : List View} {s : Option Held} {h : History} (u : UnderWay) → Coupled v s h → Coupled v none (history (h .settings) (h .log) u)
+pub forget : {v : List View} {s : Option Held} {h : History} (u : UnderWay) → Coupled v s h → Coupled v none (history (h .settings) (h .log) u (h .buffered))
 forget u c = record { b = c .b; ch = c .ch; gs = c .gs; idx = c .idx; medium = c .medium; memory = lost }
 
 pub alive-of : {v : List View} {u : UnderWay} {b : ℕ} {ch : List Placed} {gs : List Group} {idx : List Place} {s : Held} → Memory v u b ch gs idx (some s) → Alive v s u b ch gs idx

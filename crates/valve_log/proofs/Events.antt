@@ -1,19 +1,22 @@
 -- One event more: whatever happens to a medium and state that are coupled with the history, they still are.
 use mathlib.Core.Path.{_≡_, refl, sym, ap, _∙_}
 use mathlib.Core.Logic.{_⊎_, inl, inr}
-use mathlib.Core.Bool.{Bool, true, false, cond}
+use mathlib.Core.Bool.{Bool, true, false, not, cond}
 use mathlib.Core.Option.{Option, none, some}
-use mathlib.Core.List.{List, [], _∷_, append-nil}
+use mathlib.Core.List.{List, [], _∷_, _++_, append-nil}
 use Prim.Native.Nat.{ℕ, _+_, _-_, _*_, _/_, _%_, _^_, _≤_, _<_, max}
 use native.Mathlib.Omega.{arith}
 use native.Mathlib.Decide.{decLt}
 use lib.Dec.{eqb}
 use lib.ListN.{length}
 use borrow.Author.Tests.{leb-true, eqb-true, eq-eqb}
-use Rattle.lists.specs.Lists.{Below}
-use Rattle.lists.specs.Needs.{Need}
-use Rattle.lists.proofs.Laws.{and-l, and-r, and-both, true-false, every-at, checked-cases}
-use Rattle.page.specs.Pages.{Page, View, clean, spoilt, whole, isWhole, pagesFor}
+use Rattle.lists.specs.Lists.{every, Below}
+use Rattle.lists.specs.Needs.{Need, checked}
+use Rattle.lists.specs.Cells.{Entry}
+use Rattle.codec.specs.Codec.{blank}
+use Rattle.lists.proofs.Laws.{and-l, and-r, and-both, true-false, every-at, tests, checked-cases}
+use Rattle.page.specs.Pages.{Page, View, clean, spoilt, whole, isWhole, pagesFor, changesOf}
+use Rattle.page.specs.Buffer.{holding}
 use Rattle.page.proofs.Berger.{blanked}
 use Rattle.flash.specs.Medium.{views, seen, programmed, erased}
 use Rattle.flash.specs.Cuts.{CutProgram, CutErase}
@@ -21,31 +24,35 @@ use Rattle.flash.proofs.Laws.{length-views, clean-in}
 use Rattle.flash.proofs.Steps.{AllGuarded, program-length, program-guarded, program-views, erase-length, erase-guarded, erase-views, length-cleaned, seen-cleaned, seen-uncleaned}
 use Rattle.flash.proofs.Cuts.{CutViews, cut-program-views, cut-program-guarded, cut-program-final, cut-erase-views, cut-erase-guarded}
 use Rattle.blocks.specs.Blocks.{sizeOk}
-use Rattle.state.specs.State.{Pending, append, commit, collect, Held, basePages}
+use Rattle.state.specs.State.{Pending, append, commit, collect, flush, Held, basePages, bufferedIn}
 use Rattle.recovery.specs.Recovery.{Placed, Group, Recovery, walk, groupsOf}
 use Rattle.recovery.specs.Recovery
-use Rattle.calls.specs.Calls.{Call, starting, zip, appendNeeds, appendOf, commitNeeds, commitOf, collectNeeds, collectOf}
-use Rattle.step.specs.Step.{Step, stepOf, mediumAfter}
-use Rattle.valve_log.specs.History.{UnderWay, nothing, appending, committing, collecting, History, history, Told, unchanged, beganAppend, beganCommit, beganCollect, steppedPage, counted, tell}
-use Rattle.valve_log.specs.Reached.{World, world, withState, stepDue, CutOf, Event, Moment, called, stepped, sameBytes, cutShort, recovered, happen}
+use Rattle.calls.specs.Calls.{Call, Buffering, starting, zip, listsOk, holdsNone, placesFor, appendNeeds, appendOf, commitNeeds, commitOf, collectNeeds, collectOf, flushNeeds, flushOf, bufferNeeds, bufferOf}
+use Rattle.step.specs.Step.{Step, stepOf, mediumAfter, bufferAfter}
+use Rattle.valve_log.specs.History.{UnderWay, nothing, appending, committing, collecting, flushing, History, history, Told, unchanged, beganAppend, beganCommit, beganCollect, putIn, beganFlush, steppedPage, counted, tell}
+use Rattle.valve_log.specs.Reached.{World, world, fresh, withState, stepDue, CutOf, Event, Moment, called, filled, stepped, sameBytes, cutShort, recovered, happen}
 use Rattle.valve_log.specs.Reached
 use Rattle.nodes.proofs.Alive.{words-length}
 use Rattle.valve_log.proofs.Index.{sound-keep, words-keep}
 use Rattle.valve_log.proofs.Views.{one-keeps, one-lost}
 use Rattle.valve_log.proofs.Present.{nil}
 use Rattle.valve_log.proofs.Groups.{lay, unopened}
-use Rattle.valve_log.proofs.Small.{small-zip, words-small}
+use Rattle.valve_log.proofs.Small.{small-zip, zip-length, words-small}
 use Rattle.valve_log.proofs.Sound.{outcome, accepts, lost-sound}
-use Rattle.valve_log.proofs.Coupling.{Pend, at-rest, in-append, in-commit, in-collect, alive, alive-of, lost, Coupled, forget}
+use Rattle.valve_log.proofs.Coupling.{Pend, at-rest, in-append, in-commit, in-collect, in-flush, alive, alive-of, Coupled, forget}
+use Rattle.valve_log.proofs.Coupling
+use Rattle.valve_log.proofs.Lent.{Beside, Lent, Lending, lost, kept, lent-of, lent-groups, notFlush, lent-none, lent-more}
 use Rattle.valve_log.proofs.Due.{Programs, Erases, Good, step-good}
 
 -- ---- the world and the history
 
--- a medium of allowed length, whose pages each keep their zero bits at most their check, coupled with the state and the history
+-- a medium of allowed length, whose pages each keep their zero bits at most their check, coupled with the state and the history, and the
+-- buffer beside them
 pub record Upheld (w : World) (h : History) : Type 0 where
   pub size : sizeOk (length (w .medium)) ≡ true
   pub guarded : AllGuarded (w .medium)
   pub coupled : Coupled (views (w .medium)) (w .state) h
+  pub lending : Lending (w .buffer) h (w .state)
 
 -- after a moment, with what the history was told of it
 abbrev pub Follows : History → Moment → Type 0
@@ -63,11 +70,25 @@ sized n e = record { even = eqb-true (n % 4096) 0 (every-at 0 _ e); low = leb-tr
 pub few-views : (m : List ℕ) → sizeOk (length m) ≡ true → length (views m) ≤ 4096
 few-views m e = let s = sized (length m) e in omega (arith, length-views m, s .high, s .even)
 
+-- ---- what conditions 24 and 10 say of the buffered groups
+
+no-groups : (gs : List (List Entry)) → eqb (length gs) 0 ≡ true → gs ≡ []
+no-groups [] e = refl
+no-groups (g ∷ gs) e = absurd (let z : length (g ∷ gs) ≡ 0 = eqb-true (length (g ∷ gs)) 0 e in omega arith)
+
+some-groups : (gs : List (List Entry)) → not (eqb (length gs) 0) ≡ true → 1 ≤ length gs
+some-groups [] e = true-false e refl
+some-groups (g ∷ gs) e = omega arith
+
 -- ---- calls that begin an operation
 
-module _ (m : List ℕ) (s : Held) (h : History) (U : Upheld (world m (some s)) h) where
-  begin-good : (pend : Pending) (u : UnderWay) → ((ch : List Placed) (gs : List Group) → Pend (views m) (s .head .serial) ch gs (s .index) pend u) → Upheld (world m (some (starting s pend))) (history (h .settings) (h .log) u)
-  begin-good pend u p =
+module _ (m : List ℕ) (s : Held) (b : List ℕ) (h : History) (U : Upheld (world m (some s) b) h) where
+  L : Lent s b h
+  L = lent-of (U .lending)
+
+  begin-good : (pend : Pending) (u : UnderWay) → ((ch : List Placed) (gs : List Group) → Pend (views m) (s .head .serial) ch gs (s .index) pend u) → Beside pend u (h .buffered)
+      → Upheld (world m (some (starting s pend)) b) (history (h .settings) (h .log) u (h .buffered))
+  begin-good pend u p B =
       let c = U .coupled in
       let a = alive-of (c .memory) in
       record {
@@ -82,45 +103,105 @@ module _ (m : List ℕ) (s : Held) (h : History) (U : Upheld (world m (some s)) 
               medium = c .medium;
               memory = alive {s = starting s pend} (record { serials = a .serials; bases = a .bases; indices = a .indices; pends = rw (← a .indices) (p (c .ch) (c .gs)) });
             };
+        lending = kept {s = starting s pend} (record { holds = L .holds; fits-in = L .fits-in; allowed = L .allowed; count = L .count; beside = B });
       }
 
   -- a call whose conditions are met begins the operation; otherwise nothing changes
-  call-good : (t : Told) (cs : List Need) (s′ : Held) → Upheld (world m (some s′)) (tell h t) → Follows h (called (world m (some s)) t (Rattle.lists.specs.Needs.checked Call.refused cs (Call.begun s′)))
-  call-good t cs s′ U′ = checked-cases (λ (r : Call). Follows h (called (world m (some s)) t r)) Call.refused cs (Call.begun s′) (λ n. unfold called tell in U) (λ e. unfold called in U′)
+  call-good : (t : Told) (cs : List Need) (s′ : Held) → (every (tests cs) ≡ true → Upheld (world m (some s′) b) (tell h t)) → Follows h (called (world m (some s) b) t (checked Call.refused cs (Call.begun s′)))
+  call-good t cs s′ U′ = checked-cases (λ (r : Call). Follows h (called (world m (some s) b) t r)) Call.refused cs (Call.begun s′) (λ n. unfold called tell in U) (λ e. unfold called in U′ e)
 
-  append-good : (ks ws : List ℕ) → Below (2 ^ 16) ks → Below (2 ^ 64) ws → Follows h (called (world m (some s)) (beganAppend (zip ks ws)) (appendOf (length m) (views m) s ks ws))
+  -- 24: nothing is buffered
+  none-buffered : holdsNone b ≡ true → h .buffered ≡ []
+  none-buffered e = no-groups (h .buffered) (unfold holdsNone in (rw (lent-groups L) at e))
+
+  -- 10: something is
+  some-buffered : not (holdsNone b) ≡ true → 1 ≤ length (h .buffered)
+  some-buffered e = some-groups (h .buffered) (unfold holdsNone in (rw (lent-groups L) at e))
+
+  append-good : (ks ws : List ℕ) → Below (2 ^ 16) ks → Below (2 ^ 64) ws → Follows h (called (world m (some s) b) (beganAppend (zip ks ws)) (appendOf (length m) (views m) s b ks ws))
   unfolding appendOf
-  append-good ks ws a b =
-      call-good (beganAppend (zip ks ws)) (appendNeeds (length m) (views m) s ks ws) (starting s (append (zip ks ws) []))
-      (unfold tell in begin-good (append (zip ks ws) []) (appending (zip ks ws) (pagesFor (length (zip ks ws))))
-      (λ ch gs. in-append {es = zip ks ws} {ps = []} {left = pagesFor (length (zip ks ws))} (s .head .serial) (small-zip ks ws a b) (omega arith) (omega arith) (unfold lay in unopened) (unfold lay in nil)))
+  append-good ks ws x y =
+      call-good (beganAppend (zip ks ws)) (appendNeeds (length m) (views m) s b ks ws) (starting s (append (zip ks ws) []))
+      (λ e. unfold tell in begin-good (append (zip ks ws) []) (appending (zip ks ws) (pagesFor (length (zip ks ws))))
+      (λ ch gs. in-append {es = zip ks ws} {ps = []} {left = pagesFor (length (zip ks ws))} (s .head .serial) (small-zip ks ws x y) (omega arith) (omega arith) (unfold lay in unopened) (unfold lay in nil))
+      (unfold Beside in none-buffered (fourth e)))
+    where
+      fourth : every (tests (appendNeeds (length m) (views m) s b ks ws)) ≡ true → holdsNone b ≡ true
+      fourth e = unfold tests in every-at 3 _ e
 
-  commit-good : Follows h (called (world m (some s)) beganCommit (commitOf (length m) (views m) s))
+  commit-good : Follows h (called (world m (some s) b) beganCommit (commitOf (length m) (views m) s b))
   unfolding commitOf
   commit-good =
-      call-good beganCommit (commitNeeds (length m) (views m) s) (starting s (commit 0))
-      (unfold tell in begin-good (commit 0) (committing (max 1 (pagesFor (length (h .settings)))))
-      (λ ch gs. in-commit {k = 0} {left = max 1 (pagesFor (length (h .settings)))} (s .head .serial) [] ch refl (left-is) (omega arith) (unfold lay in sym (append-nil ch)) (unfold lay in unopened) (unfold lay in unopened) (unfold lay walk groupsOf in refl)))
+      call-good beganCommit (commitNeeds (length m) (views m) s b) (starting s (commit 0))
+      (λ e. unfold tell in begin-good (commit 0) (committing (max 1 (pagesFor (length (h .settings)))))
+      (λ ch gs. in-commit {k = 0} {left = max 1 (pagesFor (length (h .settings)))} (s .head .serial) [] ch refl (left-is) (omega arith) (unfold lay in sym (append-nil ch)) (unfold lay in unopened)
+      (unfold lay in unopened) (unfold lay walk groupsOf in refl))
+      (unfold Beside in none-buffered (fourth e)))
     where
+      fourth : every (tests (commitNeeds (length m) (views m) s b)) ≡ true → holdsNone b ≡ true
+      fourth e = unfold tests in every-at 3 _ e
+
       sizes : length (h .settings) ≡ length (s .index)
       sizes = sym (ap length (U .coupled .medium .shows)) ∙ words-length (views m) (U .coupled .idx) ∙ sym (ap length (alive-of (U .coupled .memory) .indices))
 
       left-is : max 1 (pagesFor (length (h .settings))) + 0 ≡ basePages (length (s .index))
       left-is = unfold basePages in (rw sizes (omega arith))
 
-  collect-good : (b : ℕ) → Follows h (called (world m (some s)) beganCollect (collectOf (length m) (views m) s b))
+  collect-good : (block : ℕ) → Follows h (called (world m (some s) b) beganCollect (collectOf (length m) (views m) s b block))
   unfolding collectOf
-  collect-good b = call-good beganCollect (collectNeeds (length m) (views m) s b) (starting s (collect b)) (unfold tell in begin-good (collect b) collecting (λ ch gs. in-collect))
+  collect-good block =
+      call-good beganCollect (collectNeeds (length m) (views m) s b block) (starting s (collect block))
+      (λ e. unfold tell in begin-good (collect block) collecting (λ ch gs. in-collect) (unfold Beside in none-buffered (fourth e)))
+    where
+      fourth : every (tests (collectNeeds (length m) (views m) s b block)) ≡ true → holdsNone b ≡ true
+      fourth e = unfold tests in every-at 3 _ e
+
+  flush-good : Follows h (called (world m (some s) b) beganFlush (flushOf (length m) (views m) s b))
+  unfolding flushOf Beside
+  flush-good =
+      call-good beganFlush (flushNeeds (length m) (views m) s b) (starting s flush)
+      (λ e. unfold tell in begin-good flush (flushing (h .buffered) 1) (λ ch gs. in-flush {small = h .buffered}) (flushes e))
+    where
+      fourth : every (tests (flushNeeds (length m) (views m) s b)) ≡ true → not (holdsNone b) ≡ true
+      fourth e = unfold tests in every-at 3 _ e
+
+      flushes : every (tests (flushNeeds (length m) (views m) s b)) ≡ true → Beside flush (flushing (h .buffered) 1) (h .buffered)
+      flushes e = (refl, some-buffered (fourth e))
+
+  -- a group into the buffer
+  buffer-good : (ks ws : List ℕ) → Below (2 ^ 16) ks → Below (2 ^ 64) ws → Follows h (filled (world m (some s) b) (putIn (zip ks ws)) (bufferOf (length m) (views m) s b ks ws))
+  unfolding bufferOf tests
+  buffer-good ks ws x y =
+      checked-cases (λ (r : Buffering). Follows h (filled (world m (some s) b) (putIn (zip ks ws)) r)) Buffering.refused (bufferNeeds (length m) (views m) s b ks ws) (Buffering.buffered (holding (bufferedIn b ++ (zip ks ws ∷ []))))
+      (λ n. unfold filled tell in U) (λ e. unfold filled tell in after e)
+    where
+      lends : every (tests (bufferNeeds (length m) (views m) s b ks ws)) ≡ true → Lent s (holding (bufferedIn b ++ (zip ks ws ∷ []))) (history (h .settings) (h .log) (h .underWay) (h .buffered ++ (zip ks ws ∷ [])))
+      lends e =
+          let lists = every-at 3 _ e in
+          let z = zip-length ks ws (eqb-true (length ks) (length ws) (unfold listsOk in every-at 0 _ lists)) in
+          let low : 1 ≤ length ks = leb-true 1 (length ks) (unfold listsOk in every-at 1 _ lists) in
+          let few : length (changesOf (bufferedIn b)) + length ks ≤ 16 = leb-true (length (changesOf (bufferedIn b)) + length ks) 16 (unfold placesFor in every-at 6 _ e) in
+          lent-more L (zip ks ws) (every-at 2 _ e) (small-zip ks ws x y) (omega arith) (omega arith) (every-at 4 _ e) (every-at 5 _ e)
+
+      after : every (tests (bufferNeeds (length m) (views m) s b ks ws)) ≡ true → Upheld (world m (some s) (holding (bufferedIn b ++ (zip ks ws ∷ [])))) (history (h .settings) (h .log) (h .underWay) (h .buffered ++ (zip ks ws ∷ [])))
+      after e =
+          let c = U .coupled in
+          record {
+            size = U .size;
+            guarded = U .guarded;
+            coupled = record { b = c .b; ch = c .ch; gs = c .gs; idx = c .idx; medium = c .medium; memory = c .memory };
+            lending = kept {s = s} (lends e);
+          }
 
 -- ---- recovery
 
-recover-good : (m : List ℕ) (s : Option Held) (h : History) → Upheld (world m s) h → Follows h (recovered (world m s) (Recovery.recover (length m) (views m)))
-recover-good m s h U = rw (accepts (U .coupled .medium) (length m) (U .size)) (unfold recovered tell in afterwards)
+recover-good : (m : List ℕ) (s : Option Held) (b : List ℕ) (h : History) → Upheld (world m s b) h → Follows h (recovered (world m s b) (Recovery.recover (length m) (views m)))
+recover-good m s b h U = rw (accepts (U .coupled .medium) (length m) (U .size)) (unfold recovered tell in afterwards)
   where
     c : Coupled (views m) s h
     c = U .coupled
 
-    afterwards : Upheld (world m (some (outcome (c .medium)))) (history (h .settings) (h .log) nothing)
+    afterwards : Upheld (world m (some (outcome (c .medium))) fresh) (history (h .settings) (h .log) nothing [])
     afterwards =
         record {
           size = U .size;
@@ -134,12 +215,13 @@ recover-good m s h U = rw (accepts (U .coupled .medium) (length m) (U .size)) (u
                 medium = c .medium;
                 memory = alive {s = outcome (c .medium)} (unfold outcome in record { serials = refl; bases = refl; indices = refl; pends = at-rest });
               };
+          lending = kept (lent-none (outcome (c .medium)) fresh (history (h .settings) (h .log) nothing []) refl refl (unfold outcome notFlush in refl));
         }
 
 -- ---- a cut between two steps
 
-cut-good : (m : List ℕ) (s : Option Held) (h : History) → Upheld (world m s) h → Upheld (world m none) h
-cut-good m s h U = record { size = U .size; guarded = U .guarded; coupled = forget (h .underWay) (U .coupled) }
+cut-good : (m : List ℕ) (s : Option Held) (b b′ : List ℕ) (h : History) → Upheld (world m s b) h → Upheld (world m none b′) h
+cut-good m s b b′ h U = record { size = U .size; guarded = U .guarded; coupled = forget (h .underWay) (U .coupled); lending = lost }
 
 -- ---- the bytes of two media
 
@@ -157,21 +239,22 @@ same-refl (x ∷ xs) = and-both (eq-eqb x x refl) (same-refl xs)
 
 -- ---- the step due, and a cut inside it
 
-module _ (m : List ℕ) (s : Held) (h : History) (U : Upheld (world m (some s)) h) where
+module _ (m : List ℕ) (s : Held) (bs : List ℕ) (h : History) (U : Upheld (world m (some s) bs) h) where
   -- a page programmed
-  module _ (p : ℕ) (pg : Page) (s′ : Held) (P : Programs (views m) s h p pg s′) where
+  module _ (p : ℕ) (pg : Page) (s′ : Held) (P : Programs (views m) s bs h p pg s′) where
     pub there : 256 * p + 256 ≤ length m
     there = omega (arith, clean-in (views m) p (P .cleans), length-views m)
 
     few : length (pg .entries) ≤ 24
     few = P .fits-in .count
 
-    program-upheld : Upheld (world (programmed m p pg) (some s′)) (counted h (h .underWay))
+    program-upheld : Upheld (world (programmed m p pg) (some s′) (cond (eqb (pg .kind) 4) (blank 256) bs)) (counted h (h .underWay))
     program-upheld =
         record {
           size = rw (program-length m p pg there few) (U .size);
           guarded = program-guarded m p pg there few (U .guarded);
           coupled = rw (program-views m p pg there (P .fits-in)) (P .after);
+          lending = kept (P .lends);
         }
 
     module _ (left : List ℕ) (c : CutProgram m p pg left) where
@@ -197,8 +280,8 @@ module _ (m : List ℕ) (s : Held) (h : History) (U : Upheld (world m (some s)) 
           go spoilt k = unfold isWhole in refl
           go (whole y) k = true-false (rw (cut-program-final m p pg left there few (U .guarded) c y k) (same-refl (programmed m p pg))) e
 
-      cut-program-upheld : (b : Bool) → sameBytes left (programmed m p pg) ≡ b → Upheld (world left none) (tell h (cond b steppedPage unchanged))
-      cut-program-upheld true e = rw (same-true left (programmed m p pg) e) (unfold tell in cut-good (programmed m p pg) (some s′) (counted h (h .underWay)) program-upheld)
+      cut-program-upheld : (b : Bool) → sameBytes left (programmed m p pg) ≡ b → Upheld (world left none fresh) (tell h (cond b steppedPage unchanged))
+      cut-program-upheld true e = rw (same-true left (programmed m p pg) e) (unfold tell in cut-good (programmed m p pg) (some s′) (cond (eqb (pg .kind) 4) (blank 256) bs) fresh (counted h (h .underWay)) program-upheld)
       cut-program-upheld false e =
           let C = U .coupled in
           let k = one-keeps (views m) (views left) p (P .cleans) others in
@@ -215,12 +298,13 @@ module _ (m : List ℕ) (s : Held) (h : History) (U : Upheld (world m (some s)) 
                   medium =
                       lost-sound (C .medium) (views left) (cut-seen .size) (one-lost (C .b) (views m) (views left) p (P .cleans) (not-whole e) others)
                       (sound-keep (views m) (views left) (C .idx) k (C .medium .sounds)) (words-keep (views m) (views left) (C .idx) k (C .medium .sounds));
-                  memory = lost;
+                  memory = Coupling.lost;
                 };
+            lending = lost;
           }
 
   -- a block erased
-  module _ (b : ℕ) (s′ : Held) (E : Erases (views m) h b s′) where
+  module _ (b : ℕ) (s′ : Held) (E : Erases (views m) bs h b s′) where
     block-there : 4096 * b + 4096 ≤ length m
     block-there = omega (arith, E .inside, length-views m)
 
@@ -232,47 +316,52 @@ module _ (m : List ℕ) (s : Held) (h : History) (U : Upheld (world m (some s)) 
           outside = λ q o. seen-uncleaned (views m) (16 * b) 16 (E .inside) q o;
         })
 
-    erase-upheld : Upheld (world (erased m b) (some s′)) h
-    erase-upheld = record { size = rw (erase-length m b block-there) (U .size); guarded = erase-guarded m b block-there (U .guarded); coupled = E .after (views (erased m b)) erase-cut }
+    erase-upheld : Upheld (world (erased m b) (some s′) bs) h
+    erase-upheld = record { size = rw (erase-length m b block-there) (U .size); guarded = erase-guarded m b block-there (U .guarded); coupled = E .after (views (erased m b)) erase-cut; lending = kept (E .lends) }
 
-    cut-erase-upheld : (left : List ℕ) → CutErase m b left → Upheld (world left none) h
+    cut-erase-upheld : (left : List ℕ) → CutErase m b left → Upheld (world left none fresh) h
     cut-erase-upheld left c =
         let l : length left ≡ length m = unfold CutErase in c .size in
         record {
           size = rw l (U .size);
           guarded = cut-erase-guarded m b left block-there (U .guarded) c;
           coupled = forget (h .underWay) (E .after (views left) (cut-erase-views m b left block-there (U .guarded) c));
+          lending = lost;
         }
 
-  step-goes : (st : Step) → Good (views m) s h st → Follows h (stepped (world m (some s)) st)
-  unfolding stepped mediumAfter Good tell
+  step-goes : (st : Step) → Good (views m) s bs h st → Follows h (stepped (world m (some s) bs) st)
+  unfolding stepped mediumAfter bufferAfter Good tell
   step-goes (Step.refused n) G = U
   step-goes (Step.program p pg s′ finished) G = program-upheld p pg s′ G
   step-goes (Step.erase b s′ finished) G = erase-upheld b s′ G
 
-  cut-goes : (st : Step) → Good (views m) s h st → (left : List ℕ) → CutOf m st left → Follows h (cutShort (world m (some s)) left st)
+  cut-goes : (st : Step) → Good (views m) s bs h st → (left : List ℕ) → CutOf m st left → Follows h (cutShort (world m (some s) bs) left st)
   unfolding cutShort CutOf Good
   cut-goes (Step.refused n) G left c = absurd c
   cut-goes (Step.program p pg s′ finished) G left c = cut-program-upheld p pg s′ G left c (sameBytes left (programmed m p pg)) refl
   cut-goes (Step.erase b s′ finished) G left c = unfold tell in cut-erase-upheld b s′ G left c
 
-  pub due-good : Good (views m) s h (stepOf (length m) (views m) s)
-  due-good = step-good (length m) (views m) s h (words-small m (U .guarded .bytes)) (few-views m (U .size)) (U .coupled)
+  pub due-good : Good (views m) s bs h (stepOf (length m) (views m) s bs)
+  due-good = step-good (length m) (views m) s bs h (words-small m (U .guarded .bytes)) (few-views m (U .size)) (U .coupled) (lent-of (U .lending))
 
 -- ---- any event
 
-pub happen-good : (m : List ℕ) (s : Option Held) (h : History) (e : Event (world m s)) → Upheld (world m s) h → Follows h (happen (world m s) e)
+pub happen-good : (m : List ℕ) (s : Option Held) (b : List ℕ) (h : History) (e : Event (world m s b)) → Upheld (world m s b) h → Follows h (happen (world m s b) e)
 unfolding happen withState stepDue
-happen-good m none h (Event.append ks ws a b) U = unfold tell in U
-happen-good m (some s) h (Event.append ks ws a b) U = append-good m s h U ks ws a b
-happen-good m none h Event.commit U = unfold tell in U
-happen-good m (some s) h Event.commit U = commit-good m s h U
-happen-good m none h (Event.collect b) U = unfold tell in U
-happen-good m (some s) h (Event.collect b) U = collect-good m s h U b
-happen-good m none h Event.step U = unfold stepped tell in U
-happen-good m (some s) h Event.step U = step-goes m s h U (stepOf (length m) (views m) s) (due-good m s h U)
-happen-good m s h Event.recover U = recover-good m s h U
-happen-good m s h Event.read U = unfold tell in U
-happen-good m s h Event.cut U = unfold tell in cut-good m s h U
-happen-good m none h (Event.cutInside left c) U = absurd (unfold CutOf in c)
-happen-good m (some s) h (Event.cutInside left c) U = cut-goes m s h U (stepOf (length m) (views m) s) (due-good m s h U) left c
+happen-good m none b h (Event.append ks ws x y) U = unfold tell in U
+happen-good m (some s) b h (Event.append ks ws x y) U = append-good m s b h U ks ws x y
+happen-good m none b h Event.commit U = unfold tell in U
+happen-good m (some s) b h Event.commit U = commit-good m s b h U
+happen-good m none b h (Event.collect k) U = unfold tell in U
+happen-good m (some s) b h (Event.collect k) U = collect-good m s b h U k
+happen-good m none b h (Event.buffer ks ws x y) U = unfold tell in U
+happen-good m (some s) b h (Event.buffer ks ws x y) U = buffer-good m s b h U ks ws x y
+happen-good m none b h Event.flush U = unfold tell in U
+happen-good m (some s) b h Event.flush U = flush-good m s b h U
+happen-good m none b h Event.step U = unfold stepped tell in U
+happen-good m (some s) b h Event.step U = step-goes m s b h U (stepOf (length m) (views m) s b) (due-good m s b h U)
+happen-good m s b h Event.recover U = recover-good m s b h U
+happen-good m s b h Event.read U = unfold tell in U
+happen-good m s b h Event.cut U = unfold tell in cut-good m s b fresh h U
+happen-good m none b h (Event.cutInside left c) U = absurd (unfold CutOf in c)
+happen-good m (some s) b h (Event.cutInside left c) U = cut-goes m s b h U (stepOf (length m) (views m) s b) (due-good m s b h U) left c

@@ -2,7 +2,7 @@
 use mathlib.Core.Path.{_≡_, refl, sym, ap, subst, _∙_}
 use mathlib.Core.Bool.{Bool, true, false}
 use mathlib.Core.Option.{some}
-use mathlib.Core.List.{List}
+use mathlib.Core.List.{List, []}
 use Prim.Native.Nat.{ℕ, zero, suc, _*_, _/_, _≤_, _<_}
 use native.Mathlib.Omega.{arith}
 use native.Mathlib.Decide.{decLt}
@@ -11,6 +11,7 @@ use Rattle.lists.specs.Lists.{Bytes}
 use Rattle.lists.specs.Needs.{checked}
 use Rattle.page.specs.Pages.{clean}
 use Rattle.page.specs.Layout.{viewOf}
+use Rattle.page.proofs.Buffer.{gathered-blank}
 use Rattle.page.proofs.Berger.{blank-clean}
 use Rattle.flash.specs.Medium.{views, seen, programmed, erased}
 use Rattle.flash.proofs.Laws.{seen-views, length-views}
@@ -19,31 +20,31 @@ use Rattle.blocks.specs.Blocks.{sizeOk}
 use Rattle.state.specs.State.{Held, nowErased}
 use Rattle.calls.specs.Calls.{Call, formatting, formatOf}
 use Rattle.calls.proofs.Laws.{formatState}
-use Rattle.step.specs.Step.{Step, formatted, stepOf, mediumAfter}
+use Rattle.step.specs.Step.{Step, formatted, stepOf, mediumAfter, bufferAfter}
 use Rattle.step.proofs.Formats.{erase-due, base-due}
 use Rattle.valve_log.specs.History.{start}
-use Rattle.valve_log.specs.Reached.{World, world, withState, stepDue, Event, stepped, happen, finishes, meanwhile, Formatting, Reached}
+use Rattle.valve_log.specs.Reached.{World, world, fresh, withState, stepDue, Event, stepped, happen, finishes, meanwhile, Formatting, Reached}
 use Rattle.valve_log.specs.Finished.{stepsOn, Finished, FormattingFinishes}
 use Rattle.valve_log.proofs.Events.{sized}
 use Rattle.valve_log.proofs.Formats.{one-more, basePage, blank-page, page-there, length-after}
 
 -- ---- a step of formatting as an event
 
-module _ (m : List ℕ) (s : Held) (t : Step) (d : stepOf (length m) (views m) s ≡ t) where
-  due-is : stepDue (world m (some s)) ≡ t
+module _ (m : List ℕ) (s : Held) (t : Step) (d : stepOf (length m) (views m) s fresh ≡ t) where
+  due-is : stepDue (world m (some s) fresh) ≡ t
   unfolding stepDue withState
   due-is = d
 
-  after-is : happen (world m (some s)) Event.step .after ≡ stepped (world m (some s)) t .after
+  after-is : happen (world m (some s) fresh) Event.step .after ≡ stepped (world m (some s) fresh) t .after
   unfolding happen
-  after-is = ap (λ (q : Step). stepped (world m (some s)) q .after) due-is
+  after-is = ap (λ (q : Step). stepped (world m (some s) fresh) q .after) due-is
 
-erase-after : (m : List ℕ) (s s′ : Held) (k : ℕ) → stepped (world m (some s)) (Step.erase k s′ false) .after ≡ world (erased m k) (some s′)
-unfolding stepped mediumAfter
+erase-after : (m : List ℕ) (s s′ : Held) (k : ℕ) → stepped (world m (some s) fresh) (Step.erase k s′ false) .after ≡ world (erased m k) (some s′) fresh
+unfolding stepped mediumAfter bufferAfter
 erase-after m s s′ k = refl
 
-program-after : (m : List ℕ) (s s′ : Held) → stepped (world m (some s)) (Step.program 0 basePage s′ true) .after ≡ world (programmed m 0 basePage) (some s′)
-unfolding stepped mediumAfter
+program-after : (m : List ℕ) (s s′ : Held) → stepped (world m (some s) fresh) (Step.program 0 basePage s′ true) .after ≡ world (programmed m 0 basePage) (some s′) fresh
+unfolding stepped mediumAfter bufferAfter
 program-after m s s′ = refl
 
 erase-open : (k : ℕ) (s : Held) → finishes (Step.erase k s false) ≡ false
@@ -59,7 +60,7 @@ program-over s = refl
 record Erased (n k : ℕ) (w : World) : Type 0 where
   pub medium : List ℕ
   pub records : List Bool
-  pub is : w ≡ world medium (some (formatState (length medium / 4096) k records))
+  pub is : w ≡ world medium (some (formatState (length medium / 4096) k records)) fresh
   pub long : length medium ≡ n
   pub bytes : Bytes medium
   pub blanks : (i : ℕ) → i < 4096 * k → getD medium i 0 ≡ 255
@@ -73,10 +74,10 @@ module _ (n : ℕ) (size : sizeOk n ≡ true) where
     size-here : sizeOk (length m) ≡ true
     size-here = rw (E .long) size
 
-    erases : stepOf (length m) (views m) (formatState (length m / 4096) k (E .records)) ≡ Step.erase k (formatState (length m / 4096) (suc k) (nowErased (E .records) k)) false
+    erases : stepOf (length m) (views m) (formatState (length m / 4096) k (E .records)) fresh ≡ Step.erase k (formatState (length m / 4096) (suc k) (nowErased (E .records) k)) false
     erases =
         let S = sized (length m) size-here in
-        erase-due (length m) (views m) (length m / 4096) (E .records) size-here (omega (arith, length-views m)) (omega (arith, S .low)) k (omega (arith, E .long))
+        erase-due (length m) (views m) (length m / 4096) (E .records) fresh [] size-here (omega (arith, length-views m)) (omega (arith, S .low)) gathered-blank k (omega (arith, E .long))
 
     not-refused : (j : ℕ) → stepDue w ≡ Step.refused j → ⊥
     not-refused j e =
@@ -90,11 +91,11 @@ module _ (n : ℕ) (size : sizeOk n ≡ true) where
     unfolding one-more
     erased-more =
         let l : length (erased m k) ≡ length m = erase-length m k (omega (arith, E .long)) in
-        let I = one-more m k (E .records) size-here (E .bytes) (omega (arith, E .long)) (E .blanks) (omega (arith, E .long)) in
+        let I = one-more m fresh k (E .records) size-here (E .bytes) (omega (arith, E .long)) (E .blanks) (omega (arith, E .long)) in
         record {
           medium = erased m k;
           records = nowErased (E .records) k;
-          is = ap (λ (x : World). happen x Event.step .after) (E .is) ∙ after-is m _ _ erases ∙ erase-after m _ _ k ∙ ap (λ (j : ℕ). world (erased m k) (some (formatState (j / 4096) (suc k) (nowErased (E .records) k)))) (sym l);
+          is = ap (λ (x : World). happen x Event.step .after) (E .is) ∙ after-is m _ _ erases ∙ erase-after m _ _ k ∙ ap (λ (j : ℕ). world (erased m k) (some (formatState (j / 4096) (suc k) (nowErased (E .records) k))) fresh) (sym l);
           long = l ∙ E .long;
           bytes = I .bytes;
           blanks = I .blanks;
@@ -120,16 +121,16 @@ module _ (n : ℕ) (size : sizeOk n ≡ true) where
     first-clean : seen (views (E .medium)) 0 ≡ clean
     first-clean =
         seen-views (E .medium) 0
-        ∙ ap viewOf (blank-page (E .medium) blocks (E .records) size-last (E .bytes) few blanks-last few 0 (page-there (E .medium) blocks (E .records) size-last (E .bytes) few blanks-last few))
+        ∙ ap viewOf (blank-page (E .medium) fresh blocks (E .records) size-last (E .bytes) few blanks-last few 0 (page-there (E .medium) fresh blocks (E .records) size-last (E .bytes) few blanks-last few))
         ∙ blank-clean
 
-    writes : stepOf (length (E .medium)) (views (E .medium)) (formatState blocks blocks (E .records)) ≡ Step.program 0 basePage (formatted (formatState blocks blocks (E .records))) true
+    writes : stepOf (length (E .medium)) (views (E .medium)) (formatState blocks blocks (E .records)) fresh ≡ Step.program 0 basePage (formatted (formatState blocks blocks (E .records))) true
     writes =
         let S = sized (length (E .medium)) size-last in
-        base-due (length (E .medium)) (views (E .medium)) blocks (E .records) size-last (omega (arith, length-views (E .medium))) (omega (arith, S .low)) first-clean
+        base-due (length (E .medium)) (views (E .medium)) blocks (E .records) fresh [] size-last (omega (arith, length-views (E .medium))) (omega (arith, S .low)) gathered-blank first-clean
 
-    here : w ≡ world (E .medium) (some (formatState blocks blocks (E .records)))
-    here = E .is ∙ ap (λ (j : ℕ). world (E .medium) (some (formatState blocks j (E .records)))) (sym all-there)
+    here : w ≡ world (E .medium) (some (formatState blocks blocks (E .records))) fresh
+    here = E .is ∙ ap (λ (j : ℕ). world (E .medium) (some (formatState blocks j (E .records))) fresh) (sym all-there)
 
     last-not-refused : (j : ℕ) → stepDue w ≡ Step.refused j → ⊥
     last-not-refused j e =
@@ -143,12 +144,12 @@ module _ (n : ℕ) (size : sizeOk n ≡ true) where
     length-last =
         ap (λ (x : World). length (happen x Event.step .after .medium)) here
         ∙ ap (λ (x : World). length (x .medium)) (after-is (E .medium) _ _ writes ∙ program-after (E .medium) _ (formatted (formatState blocks blocks (E .records))))
-        ∙ length-after (E .medium) blocks (E .records) size-last (E .bytes) few blanks-last few ∙ E .long
+        ∙ length-after (E .medium) fresh blocks (E .records) size-last (E .bytes) few blanks-last few ∙ E .long
 
 -- ---- from where formatting begins
 
 abbrev first : List ℕ → World
-first m = world m (some (formatting (length m / 4096)))
+first m = world m (some (formatting (length m / 4096))) fresh
 
 begun-there : (n : ℕ) → sizeOk n ≡ true → formatOf n ≡ Call.begun (formatting (n / 4096))
 unfolding formatOf checked
@@ -177,7 +178,7 @@ module _ (m : List ℕ) (b : Bytes m) (size : sizeOk (length m) ≡ true) where
 
   under-way : (k : ℕ) → k ≤ length m / 4096 → Formatting (stepsOn k (first m))
   unfolding stepsOn
-  under-way zero h = Formatting.begun m (formatting (length m / 4096)) b (begun-there (length m) size)
+  under-way zero h = Formatting.begun m (formatting (length m / 4096)) fresh b (begun-there (length m) size)
   under-way (suc k) h = Formatting.next (stepsOn k (first m)) Event.step (under-way k (omega arith)) (unfold meanwhile in rw (not-over k (omega arith)))
 
   finished : Finished m

@@ -17,7 +17,7 @@ use Rattle.lists.proofs.Laws.{by-cases, true-false, every-at, tests, checked-ca
 use Rattle.codec.specs.Codec.{blank}
 use Rattle.codec.proofs.Put.{length-blank, get-blank, bytes-blank, bytes-put}
 use Rattle.page.specs.Pages.{Page, View, clean, spoilt, whole, page, begins, ends}
-use Rattle.page.specs.Rules.{mayCarry, leastCount, serialOk, lawful}
+use Rattle.page.specs.Rules.{mayCarry, leastCount, serialOk, marksOk, ruled, lawful}
 use Rattle.page.specs.Layout.{viewOf}
 use Rattle.page.proofs.Written.{Narrow}
 use Rattle.page.proofs.Berger.{guarded-blank, blank-clean}
@@ -28,19 +28,20 @@ use Rattle.blocks.specs.Blocks.{sizeOk}
 use Rattle.nodes.specs.Nodes.{sound, words}
 use Rattle.index.specs.Index.{risingFrom, rising}
 use Rattle.state.specs.State.{idle, append, commit, collect, format, Held, held, noneErased, nowErased, isIdle}
-use Rattle.recovery.specs.Recovery.{placed, wholes, allLawful, distinct, insert, sort, goesOn, startsGroup, baseOf, reaches, from, consecutive, group, joined, begun, enter, walk, groupsOf, logOf, pagesOf, enterAll, enterPage, enterPages, Recovery}
+use Rattle.recovery.specs.Recovery.{placed, wholes, allLawful, distinct, insert, sort, goesOn, startsGroup, baseOf, reaches, from, consecutive, group, joined, begun, enter, walk, groupsOf, logOf, pagesOf, enterAll, enterPage, enterPages, Recovery, logOfGroup}
 use Rattle.recovery.specs.Recovery
-use Rattle.calls.specs.Calls.{Call, zip, appendOf, commitOf, collectOf, formatting, formatOf}
+use Rattle.calls.specs.Calls.{Call, zip, appendOf, commitOf, collectOf, formatting, formatOf, Buffering, bufferOf, flushOf}
 use Rattle.calls.proofs.Laws.{formatState}
 use Rattle.step.specs.Step.{Step, formatted, erasing, programming, formatStep, due, programsDue, needsErase, erasedFirst, stepOf, mediumAfter}
-use Rattle.valve_log.specs.History.{start, Told, beganAppend, beganCommit, beganCollect}
-use Rattle.valve_log.specs.Reached.{World, world, withState, stepDue, Event, still, called, stepped, recovered, happen, accepted, finishes, meanwhile, Formatting}
+use Rattle.valve_log.specs.History.{start, Told, beganAppend, beganCommit, beganCollect, putIn, beganFlush}
+use Rattle.valve_log.specs.Reached.{World, world, withState, stepDue, Event, still, called, stepped, recovered, happen, accepted, finishes, meanwhile, Formatting, fresh, lentAnew, filled}
 use Rattle.valve_log.specs.Reached
 use Rattle.valve_log.proofs.Order.{below}
 use Rattle.valve_log.proofs.Index.{valves}
 use Rattle.valve_log.proofs.Small.{small-nil, narrow}
 use Rattle.valve_log.proofs.Sound.{Sound}
 use Rattle.valve_log.proofs.Coupling.{at-rest, alive, Coupled}
+use Rattle.valve_log.proofs.Lent.{kept, notFlush, lent-none}
 use Rattle.valve_log.proofs.Events.{Upheld, sized}
 
 -- ---- formatting under way: the first k blocks are erased
@@ -71,11 +72,16 @@ busy w t a b c cs s′ e =
     checked-cases (λ (r : Call). called w t r ≡ still w) Call.refused (a ∷ b ∷ c ∷ cs) (Call.begun s′) (λ n. unfold called in refl)
     (λ f. let g : c .holds ≡ true = unfold tests in every-at 2 _ f in true-false g e)
 
+busy-buffer : (w : World) (t : Told) (a b c : Need) (cs : List Need) (bs : List ℕ) → c .holds ≡ false → filled w t (checked Buffering.refused (a ∷ b ∷ c ∷ cs) (Buffering.buffered bs)) ≡ still w
+busy-buffer w t a b c cs bs e =
+    checked-cases (λ (r : Buffering). filled w t r ≡ still w) Buffering.refused (a ∷ b ∷ c ∷ cs) (Buffering.buffered bs) (λ n. unfold filled in refl)
+    (λ f. let g : c .holds ≡ true = unfold tests in every-at 2 _ f in true-false g e)
+
 -- ---- one event more
 
-module _ (m : List ℕ) (k : ℕ) (e : List Bool) (size : sizeOk (length m) ≡ true) (bytes : Bytes m) (few : k ≤ length m / 4096) (blanks : (i : ℕ) → i < 4096 * k → getD m i 0 ≡ 255) where
+module _ (m : List ℕ) (bs : List ℕ) (k : ℕ) (e : List Bool) (size : sizeOk (length m) ≡ true) (bytes : Bytes m) (few : k ≤ length m / 4096) (blanks : (i : ℕ) → i < 4096 * k → getD m i 0 ≡ 255) where
   abbrev here : World
-  here = world m (some (formatState (length m / 4096) k e))
+  here = world m (some (formatState (length m / 4096) k e)) bs
 
   same : InFormat m (some (formatState (length m / 4096) k e))
   same = record { size = size; bytes = bytes; done = k; few = few; erased = e; state = refl; blanks = blanks }
@@ -107,7 +113,7 @@ module _ (m : List ℕ) (k : ℕ) (e : List Bool) (size : sizeOk (length m) ≡ 
   unfolding Keeps stepped
   refused-keeps n f = same
 
-  step-keeps : Keeps (stepOf (length m) (views m) (formatState (length m / 4096) k e))
+  step-keeps : Keeps (stepOf (length m) (views m) (formatState (length m / 4096) k e) bs)
   unfolding stepOf due formatStep formatting programsDue needsErase every erasedFirst
   step-keeps =
       checked-cases Keeps Step.refused _ _ refused-keeps
@@ -125,23 +131,25 @@ module _ (m : List ℕ) (k : ℕ) (e : List Bool) (size : sizeOk (length m) ≡ 
   event-keeps (Event.append ks ws a b) f = unfold appendOf in rw (busy here (beganAppend (zip ks ws)) _ _ (need 8 (isIdle (format k))) _ _ (not-idle k)) same
   event-keeps Event.commit f = unfold commitOf in rw (busy here beganCommit _ _ (need 8 (isIdle (format k))) _ _ (not-idle k)) same
   event-keeps (Event.collect b) f = unfold collectOf in rw (busy here beganCollect _ _ (need 8 (isIdle (format k))) _ _ (not-idle k)) same
+  event-keeps (Event.buffer ks ws a b) f = unfold bufferOf in rw (busy-buffer here (putIn (zip ks ws)) _ _ (need 8 (isIdle (format k))) _ _ (not-idle k)) same
+  event-keeps Event.flush f = unfold flushOf in rw (busy here beganFlush _ _ (need 8 (isIdle (format k))) _ _ (not-idle k)) same
   event-keeps Event.step f = unfold Keeps in step-keeps f
   event-keeps Event.recover f = recover-keeps (Recovery.recover (length m) (views m)) f
   event-keeps Event.read f = same
   event-keeps Event.cut f = true-false f refl
   event-keeps (Event.cutInside left c) f = true-false f refl
 
-abbrev Stays : List ℕ → Option Held → Type 0
-Stays m s = (e : Event (world m s)) → meanwhile (world m s) e ≡ true → InFormat (happen (world m s) e .after .medium) (happen (world m s) e .after .state)
+abbrev Stays : List ℕ → List ℕ → Option Held → Type 0
+Stays m b s = (e : Event (world m s b)) → meanwhile (world m s b) e ≡ true → InFormat (happen (world m s b) e .after .medium) (happen (world m s b) e .after .state)
 
-keeps : (m : List ℕ) (s : Option Held) → InFormat m s → Stays m s
-keeps m s I = subst (Stays m) (sym (I .state)) (event-keeps m (I .done) (I .erased) (I .size) (I .bytes) (I .few) (I .blanks))
+keeps : (m : List ℕ) (b : List ℕ) (s : Option Held) → InFormat m s → Stays m b s
+keeps m b s I = subst (Stays m b) (sym (I .state)) (event-keeps m b (I .done) (I .erased) (I .size) (I .bytes) (I .few) (I .blanks))
 
 pub in-format : (w : World) → Formatting w → InFormat (w .medium) (w .state)
-in-format w (Formatting.begun m s b e) =
+in-format w (Formatting.begun m s bs b e) =
     let q = begun-is (length m) s e in
     record { size = q .0; bytes = b; done = 0; few = omega arith; erased = noneErased (length m / 4096); state = rw (q .1) (unfold formatting in refl); blanks = λ i h. absurd (omega arith) }
-in-format w (Formatting.next v e F k) = keeps (v .medium) (v .state) (in-format v F) e k
+in-format w (Formatting.next v e F k) = keeps (v .medium) (v .buffer) (v .state) (in-format v F) e k
 
 -- ---- formatting finished
 
@@ -160,7 +168,7 @@ wholes-start k = rw (wholes-clean 1 k)
 start-sound : (k : ℕ) → Sound (whole basePage ∷ replicate k clean) [] [] 1 (placed 0 basePage ∷ []) (group 2 (placed 0 basePage ∷ []) ∷ []) []
 start-sound k =
     record {
-      lawfuls = rw (wholes-start k) (unfold allLawful all lawful every leastCount mayCarry serialOk in refl);
+      lawfuls = rw (wholes-start k) (unfold allLawful all lawful ruled every leastCount mayCarry serialOk marksOk in refl);
       distincts = rw (wholes-start k) (unfold distinct all in refl);
       bound = rw (wholes-start k) (unfold all below in refl);
       some-page = omega arith;
@@ -169,7 +177,7 @@ start-sound k =
       based = unfold baseOf startsGroup goesOn begins ends every Rattle.lists.specs.Lists.isSome in refl;
       walks = unfold walk enter begun joined begins ends groupsOf in refl;
       replays = unfold pagesOf enterPages enterPage enterAll in refl;
-      logs = unfold logOf in refl;
+      logs = unfold logOf logOfGroup in refl;
       sounds = unfold sound all in refl;
       shows = unfold words in refl;
       tidy = record { rise = unfold rising risingFrom in refl; valve = unfold valves all in refl; count = omega arith };
@@ -199,9 +207,9 @@ pub record Begins (w : World) : Type 0 where
   pub holds : w .state ≡ some (started (length (w .medium) / 4096) erased)
 
 -- the step that finishes: all blocks are erased, and the base goes to page 0
-module _ (m : List ℕ) (k : ℕ) (e : List Bool) (size : sizeOk (length m) ≡ true) (bytes : Bytes m) (few : k ≤ length m / 4096) (blanks : (i : ℕ) → i < 4096 * k → getD m i 0 ≡ 255) where
+module _ (m : List ℕ) (bs : List ℕ) (k : ℕ) (e : List Bool) (size : sizeOk (length m) ≡ true) (bytes : Bytes m) (few : k ≤ length m / 4096) (blanks : (i : ℕ) → i < 4096 * k → getD m i 0 ≡ 255) where
   Ends : Step → Type 0
-  Ends st = finishes st ≡ true → Begins (stepped (here m k e size bytes few blanks) st .after)
+  Ends st = finishes st ≡ true → Begins (lentAnew (stepped (here m bs k e size bytes few blanks) st .after))
 
   refused-ends : (n : ℕ) → Ends (Step.refused n)
   unfolding Ends finishes
@@ -226,11 +234,11 @@ module _ (m : List ℕ) (k : ℕ) (e : List Bool) (size : sizeOk (length m) ≡ 
         (λ p h. seen-views m p ∙ ap viewOf (blank-page p (omega (arith, length-views m))) ∙ blank-clean ∙ sym (unfold seen in getD-replicate {A = View} (length m / 256) p clean spoilt (omega (arith, length-views m))))
 
     base-lawful : lawful basePage ≡ true
-    unfolding lawful all every leastCount mayCarry serialOk
+    unfolding lawful ruled all every leastCount mayCarry serialOk marksOk
     base-lawful = refl
 
     base-narrow : Narrow basePage
-    base-narrow = narrow basePage base-lawful (omega arith) small-nil
+    base-narrow = narrow basePage base-lawful (omega arith) small-nil (omega arith)
 
     pub page-there : 256 * 0 + 256 ≤ length m
     page-there = let S = sized (length m) size in omega (arith, S .low)
@@ -247,7 +255,7 @@ module _ (m : List ℕ) (k : ℕ) (e : List Bool) (size : sizeOk (length m) ≡ 
         let S = sized (length m) size in
         program-views m 0 basePage page-there base-narrow ∙ ap (λ (v : List View). set v 0 (whole basePage)) views-clean ∙ some-views (length m / 256) (omega (arith, S .low))
 
-    finished : Begins (world (programmed m 0 basePage) (some (started (length m / 4096) e)))
+    finished : Begins (world (programmed m 0 basePage) (some (started (length m / 4096) e)) fresh)
     finished =
         record {
           upheld =
@@ -255,6 +263,7 @@ module _ (m : List ℕ) (k : ℕ) (e : List Bool) (size : sizeOk (length m) ≡ 
                 size = rw length-after size;
                 guarded = program-guarded m 0 basePage page-there (omega arith) guarded;
                 coupled = rw views-after (start-coupled (length m / 4096) (length m / 256 - 1) e);
+                lending = kept (lent-none (started (length m / 4096) e) fresh start refl refl (unfold notFlush in refl));
               };
           pages = length m / 256 - 1;
           sees = views-after;
@@ -262,7 +271,7 @@ module _ (m : List ℕ) (k : ℕ) (e : List Bool) (size : sizeOk (length m) ≡ 
           holds = rw length-after;
         }
 
-  step-ends : Ends (stepOf (length m) (views m) (formatState (length m / 4096) k e))
+  step-ends : Ends (stepOf (length m) (views m) (formatState (length m / 4096) k e) bs)
   unfolding stepOf due formatStep formatting formatted programsDue needsErase every erasedFirst
   step-ends =
       checked-cases Ends Step.refused _ _ refused-ends
@@ -270,8 +279,8 @@ module _ (m : List ℕ) (k : ℕ) (e : List Bool) (size : sizeOk (length m) ≡ 
       (λ h. rw h (unfold Ends finishes in (λ f. true-false f refl)))
       (λ h. rw h (unfold programming in checked-cases Ends Step.refused _ _ refused-ends (λ g. unfold Ends stepped mediumAfter in (λ f. finished (ltb-false k (length m / 4096) h))))))
 
-abbrev Starts : List ℕ → Option Held → Type 0
-Starts m s = finishes (stepDue (world m s)) ≡ true → Begins (happen (world m s) Event.step .after)
+abbrev Starts : List ℕ → List ℕ → Option Held → Type 0
+Starts m b s = finishes (stepDue (world m s b)) ≡ true → Begins (lentAnew (happen (world m s b) Event.step .after))
 
-pub starts : (m : List ℕ) (s : Option Held) → InFormat m s → Starts m s
-starts m s I = subst (Starts m) (sym (I .state)) (unfold happen stepDue withState Ends in step-ends m (I .done) (I .erased) (I .size) (I .bytes) (I .few) (I .blanks))
+pub starts : (m : List ℕ) (b : List ℕ) (s : Option Held) → InFormat m s → Starts m b s
+starts m b s I = subst (Starts m b) (sym (I .state)) (unfold happen stepDue withState Ends in step-ends m b (I .done) (I .erased) (I .size) (I .bytes) (I .few) (I .blanks))

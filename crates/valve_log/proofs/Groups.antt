@@ -14,7 +14,7 @@ use Rattle.lists.specs.Lists.{all, every, oneIf}
 use Rattle.lists.specs.Cells.{Entry}
 use Rattle.lists.proofs.Laws.{by-cases, all-take, all-drop, all-weaken, opposite}
 use Rattle.page.specs.Pages.{page, begins, ends, pagesFor}
-use Rattle.page.specs.Rules.{mayCarry, leastCount, entryOk, serialOk, lawful}
+use Rattle.page.specs.Rules.{mayCarry, leastCount, entryOk, serialOk, marksOk, ruled, lawful}
 use Rattle.index.specs.Index.{removalOk, removalsOk}
 use Rattle.state.specs.State.{basePages}
 use Rattle.recovery.specs.Recovery.{Placed, placed, kindOf, Group, Walk, between, inside, stray, joined, begun, continues, enter, groupsOf, entriesOf}
@@ -57,11 +57,11 @@ pub page-most : (kind : ℕ) (es : List Entry) (k s : ℕ) → length (groupPage
 unfolding groupPage
 page-most kind es k s = omega (arith, part-length es k)
 
-lawful-page : (kind flags s : ℕ) (es : List Entry) → leastCount kind flags ≤ length es → all (entryOk kind) es ≡ true → 1 ≤ s → s + 1 ≤ 2 ^ 64 - 1 → lawful (page kind flags s es) ≡ true
-unfolding lawful every serialOk
-lawful-page kind flags s es n e p q =
+lawful-page : (kind flags s : ℕ) (es : List Entry) → eqb kind 4 ≡ false → leastCount kind flags ≤ length es → all (entryOk kind) es ≡ true → 1 ≤ s → s + 1 ≤ 2 ^ 64 - 1 → lawful (page kind flags s es) ≡ true
+unfolding lawful ruled every serialOk marksOk
+lawful-page kind flags s es k n e p q =
     let m : s ≤ 2 ^ 64 - 2 = omega arith in
-    rw (le-leb (leastCount kind flags) (length es) n, e, le-leb 1 s p, le-leb s (2 ^ 64 - 2) m)
+    rw (le-leb (leastCount kind flags) (length es) n, e, le-leb 1 s p, le-leb s (2 ^ 64 - 2) m, k)
 
 -- a part of the entries
 part-ok : (f : Entry → Bool) (es : List Entry) (k : ℕ) → all f es ≡ true → all f (take 24 (drop (24 * k) es)) ≡ true
@@ -93,7 +93,7 @@ part-enough es k least h m =
 pub lawful-nodes : (es : List Entry) (k s : ℕ) → removalsOk es ≡ true → k < pagesFor (length es) → 1 ≤ length es → 1 ≤ s → s + 1 ≤ 2 ^ 64 - 1 → lawful (groupPage 1 es k s) ≡ true
 unfolding groupPage pagesFor removalsOk removalOk entryOk
 lawful-nodes es k s r n l p q =
-    lawful-page 1 (flagsOf (eqb k 0) (isLast k (length es))) s (take 24 (drop (24 * k) es))
+    lawful-page 1 (flagsOf (eqb k 0) (isLast k (length es))) s (take 24 (drop (24 * k) es)) refl
     (rw (least-nodes (eqb k 0) (isLast k (length es))) (part-enough es k 1 (λ h. omega arith) (omega arith)))
     (all-weaken removalOk (entryOk 1) one (take 24 (drop (24 * k) es)) (part-ok removalOk es k r)) p q
   where
@@ -111,7 +111,7 @@ valve-ok kind es = all-weaken (λ (e : Entry). ltb (e .key) 32768) (entryOk kind
 pub lawful-base : (es : List Entry) (k s : ℕ) → all (λ e. ltb (e .key) 32768) es ≡ true → k < basePages (length es) → 1 ≤ s → s + 1 ≤ 2 ^ 64 - 1 → lawful (groupPage 2 es k s) ≡ true
 unfolding groupPage basePages pagesFor
 lawful-base es k s r n p q =
-    lawful-page 2 (flagsOf (eqb k 0) (isLast k (length es))) s (take 24 (drop (24 * k) es))
+    lawful-page 2 (flagsOf (eqb k 0) (isLast k (length es))) s (take 24 (drop (24 * k) es)) refl
     (rw (least-base (eqb k 0) (isLast k (length es))) enough)
     (valve-ok 2 (take 24 (drop (24 * k) es)) (part-ok (λ (e : Entry). ltb (e .key) 32768) es k r)) p q
   where
@@ -122,7 +122,7 @@ lawful-base es k s r n p q =
         (λ e. let z : k ≡ 0 → ⊥ = eqb-false k 0 e in rw e (part-enough es k 1 (λ h. omega arith) (omega arith)))
 
 pub lawful-moves : (es : List Entry) (s : ℕ) → all (λ e. ltb (e .key) 32768) es ≡ true → 1 ≤ length es → 1 ≤ s → s + 1 ≤ 2 ^ 64 - 1 → lawful (page 3 3 s es) ≡ true
-lawful-moves es s r n p q = lawful-page 3 3 s es (unfold leastCount mayCarry in n) (valve-ok 3 es r) p q
+lawful-moves es s r n p q = lawful-page 3 3 s es refl (unfold leastCount mayCarry in n) (valve-ok 3 es r) p q
 
 -- ---- a group laid out
 

@@ -9,6 +9,7 @@ pub mod Small
 pub mod Sound
 pub mod Coupling
 pub mod Steps
+pub mod Lent
 pub mod Due
 pub mod Events
 pub mod Formats
@@ -21,3 +22,7 @@ pub mod Quiet
 pub mod Finished
 pub mod Weak
 pub mod Once
+pub mod Buffered
+pub mod Word
+pub mod Flushable
+pub mod Older

@@ -19,8 +19,8 @@ use Rattle.valve_log.proofs.Events.{Upheld, happen-good}
 use Rattle.valve_log.proofs.Formats.{in-format, starts}
 
 pub reached-upheld : (w : World) (h : History) → Reached w h → Upheld w h
-reached-upheld w h (Reached.start v F e) = starts (v .medium) (v .state) (in-format v F) e .upheld
-reached-upheld w h (Reached.next v g e r) = happen-good (v .medium) (v .state) g e (reached-upheld v g r)
+reached-upheld w h (Reached.start v F e) = starts (v .medium) (v .buffer) (v .state) (in-format v F) e .upheld
+reached-upheld w h (Reached.next v g e r) = happen-good (v .medium) (v .state) (v .buffer) g e (reached-upheld v g r)
 
 -- the words of a sound index, place by place
 words-of : (v : List View) (l : List Place) → sound v l ≡ true → Words v l (words v l)

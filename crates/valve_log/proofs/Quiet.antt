@@ -13,9 +13,9 @@ use Rattle.recovery.specs.Recovery.{Placed, Group, Recovery, recover}
 use Rattle.lists.specs.Cells.{Place}
 use Rattle.step.specs.Step.{Step}
 use Rattle.valve_log.specs.History.{UnderWay, collecting, History, history, unchanged, steppedPage, counted, tell}
-use Rattle.valve_log.specs.Reached.{World, world, Event, stepDue, CutOf, called, stepped, sameBytes, cutShort, recovered, happen, Reached, Shows, Point3}
+use Rattle.valve_log.specs.Reached.{World, world, Event, stepDue, CutOf, called, filled, stepped, sameBytes, cutShort, recovered, happen, Reached, Shows, Point3}
 use Rattle.valve_log.specs.Quiet.{Unmoved, CollectionKeeps, RecoversAgain}
-use Rattle.valve_log.proofs.Coupling.{Pend, at-rest, in-append, in-commit, in-collect, alive-of}
+use Rattle.valve_log.proofs.Coupling.{Pend, at-rest, in-append, in-commit, in-collect, in-flush, alive-of}
 use Rattle.valve_log.proofs.Events.{Upheld}
 use Rattle.valve_log.proofs.Point3.{reached-upheld, point3}
 
@@ -24,6 +24,7 @@ unmoved =
     record {
       reading = λ w. unfold happen in refl;
       call = λ w t n. unfold called in refl;
+      buffer = λ w t n. unfold filled in refl;
       step = λ w n. unfold stepped in refl;
       recovery = λ w n. unfold recovered in refl;
       history = λ h. unfold tell in refl;
@@ -37,6 +38,7 @@ under-way b p e at-rest = let z : _≡_ {A = ℕ} 0 1 = cc in absurd (omega arit
 under-way b p e (in-append f a c d g h) = let z : _≡_ {A = ℕ} 0 1 = cc in absurd (omega arith)
 under-way b p e (in-commit f ps pre a c d g h i j) = let z : _≡_ {A = ℕ} 0 1 = cc in absurd (omega arith)
 under-way b p e in-collect = refl
+under-way b p e in-flush = let z : _≡_ {A = ℕ} 0 1 = cc in absurd (omega arith)
 
 -- so no step tells it anything
 page-nothing : (h : History) → h .underWay ≡ collecting → tell h steppedPage ≡ h
@@ -77,7 +79,7 @@ collection-keeps w h s b R e q =
     shows : (w : World) (h : History) → Reached w h → Shows (w .medium) h
     shows = unfold Point3 in point3
 
-    collects : (o : Option Held) → o ≡ some s → Upheld (world (w .medium) o) h → h .underWay ≡ collecting
+    collects : (o : Option Held) → o ≡ some s → Upheld (world (w .medium) o (w .buffer)) h → h .underWay ≡ collecting
     collects none e U = let z : _≡_ {A = ℕ} 0 1 = cc in absurd (omega arith)
     collects (some t) e U = let k : t ≡ s = cc in under-way b (t .pending) (ap (λ (x : Held). x .pending) k ∙ q) (alive-of (U .coupled .memory) .pends)
 

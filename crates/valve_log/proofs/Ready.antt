@@ -16,6 +16,7 @@ use Rattle.lists.specs.Needs.{checked}
 use Rattle.lists.specs.Cells.{Entry, Place}
 use Rattle.lists.proofs.Laws.{by-cases, and-both, true-false, every-at, all-head, all-tail, all-take}
 use Rattle.page.specs.Pages.{Page, View, spoilt, whole, page, isClean, pagesFor}
+use Rattle.page.specs.Buffer.{groupsPage}
 use Rattle.page.proofs.Berger.{Turned, kept, torn, blanked}
 use Rattle.flash.specs.Medium.{seen, whollyClean}
 use Rattle.flash.proofs.Steps.{seen-set-other}
@@ -24,9 +25,9 @@ use Rattle.index.specs.Index.{rising, assignAll}
 use Rattle.blocks.specs.declared.Head.{Head}
 use Rattle.blocks.specs.Blocks.{sizeOk, available, reachesBase, oldBlock, headWithRoom, newHead, pageDue, collectible}
 use Rattle.nodes.specs.Nodes.{nodeIn, wordFor, wordAt, inBlock, sound, words, live}
-use Rattle.state.specs.State.{Pending, idle, append, commit, collect, format, unnamed, Held, held, headFit, placeFit, indexFit, groupOk, basePages, doneFit, pendingFit, fit, isIdle}
+use Rattle.state.specs.State.{Pending, idle, append, commit, collect, format, unnamed, Held, held, headFit, placeFit, indexFit, groupOk, basePages, doneFit, pendingFit, fit, isIdle, flush, bufferedIn}
 use Rattle.calls.specs.Calls.{serialsFor}
-use Rattle.step.specs.Step.{Step, isLast, groupPage, moved, addressed, appended, committed, collected, erasing, erasedFirst, programming, appendStep, commitStep, moveStep, collectStep, due, stepOf}
+use Rattle.step.specs.Step.{Step, isLast, groupPage, moved, addressed, appended, committed, collected, erasing, erasedFirst, programming, appendStep, commitStep, moveStep, collectStep, due, stepOf, flushed, flushStep}
 use Rattle.step.proofs.Laws.{first-cases}
 use Rattle.valve_log.specs.History.{History}
 use Rattle.valve_log.specs.Steady.{expected}
@@ -37,6 +38,7 @@ use Rattle.valve_log.proofs.Views.{clean-same}
 use Rattle.valve_log.proofs.Moves.{unique-live, live-in-block, moves-out}
 use Rattle.valve_log.proofs.Replay.{addressed-one}
 use Rattle.valve_log.proofs.Coupling.{Alive, alive-of, Coupled}
+use Rattle.valve_log.proofs.Lent.{Lent, with-fit}
 use Rattle.valve_log.proofs.Supply.{below-same, clean-elsewhere, HeadReady, Which, in-head, new-head, due-page, available-after, ready-after}
 
 -- pages enough for what is pending; formatting is never pending there
@@ -46,6 +48,7 @@ Left v h index (append es ps) = pagesFor (length es) ≤ length ps + available v
 Left v h index (commit k) = basePages (length index) ≤ k + available v h
 Left v h index (collect b) = pagesFor (length (live index b)) ≤ available v h
 Left v h index (format n) = ⊥
+Left v h index flush = 1 ≤ available v h
 Left v h index unnamed = ⊥
 
 pub record Ready (v : List View) (s : Held) : Type 0 where
@@ -157,6 +160,10 @@ left-append v h index es ps k = k
 pub left-commit : (v : List View) (h : Head) (index : List Place) (k : ℕ) → basePages (length index) ≤ k + available v h → Left v h index (commit k)
 unfolding Left
 left-commit v h index k l = l
+
+pub left-flush : (v : List View) (h : Head) (index : List Place) → 1 ≤ available v h → Left v h index flush
+unfolding Left
+left-flush v h index k = k
 
 pub left-collect : (v : List View) (h : Head) (index : List Place) (b : ℕ) → pagesFor (length (live index b)) ≤ available v h → Left v h index (collect b)
 unfolding Left
@@ -387,15 +394,33 @@ module _ (v : List View) (s : Held) (h : History) (c : Coupled v (some s) h) (r 
   collect-ready b e [] q = unfold StepReady in erase-ready b
   collect-ready b e (x ∷ xs) q = move-ready b (x ∷ xs) e q (omega arith)
 
-  due-ready : (pend : Pending) → s .pending ≡ pend → StepReady v (due v s pend)
-  unfolding due
-  due-ready idle e = unfold StepReady in expected-9
-  due-ready (append es ps) e = append-ready es ps e
-  due-ready (commit k) e = commit-ready k e
-  due-ready (collect b) e = collect-ready b e (live (s .index) b) refl
-  due-ready (format n) e = absurd (unfold Left in (rw e at (r .left)))
-  due-ready unnamed e = absurd (unfold Left in (rw e at (r .left)))
+  flush-ready : (gs : List (List Entry)) → s .pending ≡ flush → StepReady v (flushStep v s gs)
+  unfolding flushStep
+  flush-ready gs e =
+      programming-ready v (s .head) (groupsPage (s .head .serial) gs) (flushed s gs p) true (r .heads) one (λ w.
+      unfold flushed in
+      record {
+        size = unfold moved in grown-size (whole (groupsPage (s .head .serial) gs));
+        heads = ready-after v (s .head) p (s .head .base) (whole (groupsPage (s .head .serial) gs)) (r .heads) w;
+        pend = unfold pendingFit in refl;
+        left = unfold Left in tt;
+      })
+    where
+      one : 1 ≤ available v (s .head)
+      one = unfold Left in (rw e at (r .left))
 
-  pub step-ready : (n : ℕ) → sizeOk n ≡ true → StepReady v (stepOf n v s)
+  due-ready : (gs : List (List Entry)) (pend : Pending) → s .pending ≡ pend → StepReady v (due v s gs pend)
+  unfolding due
+  due-ready gs idle e = unfold StepReady in expected-9
+  due-ready gs (append es ps) e = append-ready es ps e
+  due-ready gs (commit k) e = commit-ready k e
+  due-ready gs (collect b) e = collect-ready b e (live (s .index) b) refl
+  due-ready gs (format n) e = absurd (unfold Left in (rw e at (r .left)))
+  due-ready gs flush e = flush-ready gs e
+  due-ready gs unnamed e = absurd (unfold Left in (rw e at (r .left)))
+
+  pub step-ready : (b : List ℕ) → Lent s b h → (n : ℕ) → sizeOk n ≡ true → StepReady v (stepOf n v s b)
   unfolding stepOf checked
-  step-ready n size = by-cases (isIdle (s .pending)) (λ i. rw (size, fit-ready v s h c r, i) (unfold StepReady in expected-9)) (λ i. rw (size, fit-ready v s h c r, i) (first-ready (due v s (s .pending)) (due-ready (s .pending) refl)))
+  step-ready b L n size =
+      let f = with-fit v L (fit-ready v s h c r) in
+      by-cases (isIdle (s .pending)) (λ i. rw (size, f, i) (unfold StepReady in expected-9)) (λ i. rw (size, f, i) (first-ready (due v s (bufferedIn b) (s .pending)) (due-ready (bufferedIn b) (s .pending) refl)))

@@ -14,9 +14,9 @@ use borrow.Author.Tests.{le-leb, eqb-true}
 use Rattle.lists.specs.declared.Cell.{Cell}
 use Rattle.lists.specs.Lists.{all}
 use Rattle.lists.specs.Cells.{cell, Entry}
-use Rattle.lists.proofs.Laws.{by-cases, and-l, and-r, and-both, all-head, all-tail}
+use Rattle.lists.proofs.Laws.{and-l, and-r, and-both, all-head, all-tail}
 use Rattle.index.specs.Index.{entering, mostValves, risingFrom, assign, assignAll, within}
-use Rattle.recovery.specs.Recovery.{Placed, kindOf, Group, entriesOf, logOf, above, stack, enterOne, enterAll, enterPage, enterPages}
+use Rattle.recovery.specs.Recovery.{Placed, kindOf, Group, entriesOf, logOfGroup, logOf, above, stack, enterOne, enterAll, enterPage, enterPages}
 use Rattle.recovery.proofs.Pages.{above-snoc}
 use Rattle.step.specs.Step.{groupPage, addressedFrom, addressed}
 use Rattle.valve_log.proofs.Index.{nodes, nodesOf, assign-append}
@@ -27,7 +27,7 @@ use Rattle.valve_log.proofs.Groups.{lay}
 pub log-append : (a b : List Group) → logOf (a ++ b) ≡ logOf a ++ logOf b
 unfolding logOf
 log-append [] b = refl
-log-append (g ∷ a) b = by-cases (eqb (g .kind) 1) (λ e. rw (e, log-append a b)) (λ e. rw (e, log-append a b))
+log-append (g ∷ a) b = ap (λ (t : List (List Entry)). logOfGroup g ++ t) (log-append a b) ∙ sym (append-assoc (logOfGroup g) (logOf a) (logOf b))
 
 pub enter-pages-append : (o : Option (List Cell)) (a b : List Placed) → enterPages o (a ++ b) ≡ enterPages (enterPages o a) b
 unfolding enterPages

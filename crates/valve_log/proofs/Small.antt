@@ -1,5 +1,5 @@
 -- Keys have 16 bits and words 64, all the way: in the calls, in what is pending, in each page that a step programs.
-use mathlib.Core.Path.{_≡_, refl, sym, _∙_}
+use mathlib.Core.Path.{_≡_, refl, sym, _∙_, ap}
 use mathlib.Core.Bool.{Bool, true, false, cond, _&&_, _||_}
 use mathlib.Core.Option.{none}
 use mathlib.Core.List.{List, [], _∷_}
@@ -13,10 +13,10 @@ use borrow.Author.Tests.{ltb-true, eqb-true, leb-true, lt-leb}
 use Rattle.lists.specs.declared.Cell.{Cell}
 use Rattle.lists.specs.Lists.{all, Below, Bytes, table, valueOr}
 use Rattle.lists.specs.Cells.{cell, Entry, Place, keysOf, wordsOf}
-use Rattle.lists.proofs.Laws.{by-cases, and-r, every-at, all-head, all-tail, below-nil, below-cons, below-tail, below-drop, get-table, length-table, word-at}
+use Rattle.lists.proofs.Laws.{by-cases, and-r, every-at, all-head, all-tail, below-nil, below-cons, below-tail, below-drop, get-table, length-table, word-at, and-l}
 use Rattle.codec.specs.Codec.{le, part}
 use Rattle.page.specs.Pages.{Page, View, clean, spoilt, whole}
-use Rattle.page.specs.Rules.{mayCarry, leastCount, serialOk, lawful}
+use Rattle.page.specs.Rules.{mayCarry, leastCount, serialOk, ruled, lawful}
 use Rattle.page.specs.Layout.{used, entryAt, decode}
 use Rattle.page.proofs.Written.{Narrow}
 use Rattle.page.proofs.Berger.{whole-view}
@@ -69,35 +69,50 @@ small-zip [] ws a b = small-nil
 small-zip (k ∷ ks) [] a b = small-nil
 small-zip (k ∷ ks) (w ∷ ws) a b = small-cons (cell k w) (zip ks ws) (a .each 0) (b .each 0) (small-zip ks ws (below-tail a) (below-tail b))
 
+pub zip-length : (ks ws : List ℕ) → length ks ≡ length ws → length (zip ks ws) ≡ length ks
+unfolding zip
+zip-length [] ws e = refl
+zip-length (k ∷ ks) [] e = absurd (omega arith)
+zip-length (k ∷ ks) (w ∷ ws) e = ap suc (zip-length ks ws (omega arith))
+
 -- ---- a lawful page of small entries has room in its fields
 
 kind-small : (kind flags n : ℕ) → leastCount kind flags ≤ n → n ≤ 24 → (kind < 256) × (flags < 256)
 unfolding leastCount mayCarry
 kind-small kind flags n h m =
     by-cases (eqb kind 3)
-    (λ a. by-cases (eqb flags 3)
-    (λ b. let x : kind ≡ 3 = eqb-true kind 3 a in let y : flags ≡ 3 = eqb-true flags 3 b in (omega arith, omega arith))
-    (λ b. let z : 25 ≤ n = rw (a, b) at h in absurd (omega arith)))
-    (λ a. by-cases (leb flags 3)
+    (λ a. let x : kind ≡ 3 = eqb-true kind 3 a in one (rw a at h) (omega arith))
+    (λ a. by-cases (eqb kind 4)
+    (λ o. let x : kind ≡ 4 = eqb-true kind 4 o in one (rw (a, o) at h) (omega arith))
+    (λ o. by-cases (leb flags 3)
     (λ b.
     let y : flags ≤ 3 = leb-true flags 3 b in
     by-cases (eqb kind 1)
     (λ c. let x : kind ≡ 1 = eqb-true kind 1 c in (omega arith, omega arith))
     (λ c. by-cases (eqb kind 2)
     (λ d. let x : kind ≡ 2 = eqb-true kind 2 d in (omega arith, omega arith))
-    (λ d. let z : 25 ≤ n = rw (a, c, d) at h in absurd (omega arith))))
-    (λ b. let z : 25 ≤ n = none (eqb kind 1 || eqb kind 2) (rw (a, b) at h) in absurd (omega arith)))
+    (λ d. let z : 25 ≤ n = rw (a, o, c, d) at h in absurd (omega arith))))
+    (λ b. let z : 25 ≤ n = none (eqb kind 1 || eqb kind 2) (rw (a, o, b) at h) in absurd (omega arith))))
   where
     none : (c : Bool) → cond (c && false) (cond (leb 2 flags) (cond (eqb kind 2 && eqb flags 3) 0 1) 24) 25 ≤ n → 25 ≤ n
     none true h = h
     none false h = h
 
-pub narrow : (pg : Page) → lawful pg ≡ true → length (pg .entries) ≤ 24 → Small (pg .entries) → Narrow pg
-unfolding lawful serialOk
-narrow pg l few s =
-    let k = kind-small (pg .kind) (pg .flags) (length (pg .entries)) (leb-true (leastCount (pg .kind) (pg .flags)) (length (pg .entries)) (every-at 1 _ l)) few in
-    let n : pg .serial ≤ 2 ^ 64 - 2 = leb-true (pg .serial) (2 ^ 64 - 2) (and-r (leb 1 (pg .serial)) (leb (pg .serial) (2 ^ 64 - 2)) (every-at 3 _ l)) in
-    record { kind = k .0; flags = k .1; count = few; serial = omega arith; keys = s .keys; words = s .words; tidy = every-at 0 _ l }
+    -- a kind with flags 3 only
+    one : cond (eqb flags 3) (cond (leb 2 flags) (cond (eqb kind 2 && eqb flags 3) 0 1) 24) 25 ≤ n → kind < 256 → (kind < 256) × (flags < 256)
+    one h k =
+        by-cases (eqb flags 3)
+        (λ b. let y : flags ≡ 3 = eqb-true flags 3 b in (k, omega arith))
+        (λ b. let z : 25 ≤ n = rw b at h in absurd (omega arith))
+
+pub narrow : (pg : Page) → lawful pg ≡ true → length (pg .entries) ≤ 24 → Small (pg .entries) → pg .marks < 65536 → Narrow pg
+unfolding lawful ruled serialOk
+narrow pg l few s m =
+    let u : ruled pg ≡ true = and-l (ruled pg) (serialOk (pg .serial)) l in
+    let w : serialOk (pg .serial) ≡ true = and-r (ruled pg) (serialOk (pg .serial)) l in
+    let k = kind-small (pg .kind) (pg .flags) (length (pg .entries)) (leb-true (leastCount (pg .kind) (pg .flags)) (length (pg .entries)) (every-at 1 _ u)) few in
+    let n : pg .serial ≤ 2 ^ 64 - 2 = leb-true (pg .serial) (2 ^ 64 - 2) (and-r (leb 1 (pg .serial)) (leb (pg .serial) (2 ^ 64 - 2)) w) in
+    record { kind = k .0; flags = k .1; count = few; serial = omega arith; marks = m; keys = s .keys; words = s .words; tidy = every-at 0 _ u }
 
 -- ---- the words of a medium
 

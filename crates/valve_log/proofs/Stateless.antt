@@ -8,9 +8,10 @@ use lib.ListN.{length}
 use Rattle.lists.specs.Needs.{checked}
 use Rattle.lists.specs.Cells.{Entry}
 use Rattle.lists.proofs.Laws.{by-cases}
+use Rattle.page.specs.Pages.{changesOf}
 use Rattle.flash.specs.Medium.{views}
 use Rattle.blocks.specs.Blocks.{sizeOk}
-use Rattle.recovery.specs.Recovery.{Recovery, recover as recoverOf, changesOf}
+use Rattle.recovery.specs.Recovery.{Recovery, recover as recoverOf}
 use Rattle.readings.specs.Readings.{Answer, LogRead, longEnough, filed, readInto, readLog}
 use Rattle.calls.specs.Calls.{Call, formatOf}
 use Rattle.valve_log.specs.Reached.{Shows, Point3}

@@ -10,35 +10,38 @@ use lib.ListN.{length, replicate, length-append, length-replicate, getD-replicat
 use borrow.Author.Tests.{leb-true, le-leb, ltb-true, lt-ltb, eqb-true}
 use Rattle.lists.specs.declared.Cell.{Cell}
 use Rattle.lists.specs.Lists.{all, every, isSome, valueOr}
-use Rattle.lists.specs.Needs.{Need, checked}
+use Rattle.lists.specs.Needs.{Need, need, numberOf, checked}
 use Rattle.lists.specs.Cells.{cell, Place}
 use Rattle.lists.proofs.Laws.{by-cases, true-false, every-at, all-head, all-tail, tests, checked-cases}
-use Rattle.page.specs.Pages.{View, clean, spoilt, whole, isClean, pagesFor}
+use Rattle.page.specs.Pages.{View, clean, spoilt, whole, isClean, pagesFor, changesOf}
 use Rattle.flash.specs.Medium.{views, seen, erased}
 use Rattle.flash.proofs.Laws.{length-views}
 use Rattle.flash.proofs.Steps.{program-views}
 use Rattle.index.specs.Index.{within, removalsOk, lookup}
-use Rattle.blocks.specs.Blocks.{available}
+use Rattle.blocks.specs.Blocks.{sizeOk, available}
 use Rattle.nodes.specs.Nodes.{wordAt, sound, live, pickBelow}
-use Rattle.state.specs.State.{Pending, append, commit, collect, Held, groupOk, basePages, pendingFit, fit, stateNeeds}
+use Rattle.state.specs.State.{Pending, append, commit, collect, flush, Held, groupOk, basePages, pendingFit, fit, fitWith, bufferedIn, stateNeeds}
 use Rattle.recovery.specs.Recovery.{Placed, wholes, sort, lastOf, noPage, Recovery}
 use Rattle.recovery.specs.Recovery
-use Rattle.readings.specs.Readings.{Opening, placeOf, openingNeeds, openingOf, Pick, pickedBlock, pickOf, Survey, surveyOf, Supply, availableOf}
-use Rattle.calls.specs.Calls.{Call, starting, zip, listsOk, roomFor, appendNeeds, appendOf, commitNeeds, commitOf, collectNeeds, collectOf}
+use Rattle.readings.specs.Readings.{Opening, placeOf, openingNeeds, openingOf, lastNaming, setsAt, soughtIn, sought, wordNumber, Pick, pickedBlock, pickOf, Survey, surveyOf, Supply, availableOf}
+use Rattle.calls.specs.Calls.{Call, starting, zip, listsOk, roomFor, appendNeeds, appendOf, commitNeeds, commitOf, collectNeeds, collectOf, Buffering, flushNeeds, flushOf, bufferNeeds, bufferOf}
 use Rattle.step.specs.Step.{Step, stepOf, mediumAfter}
-use Rattle.valve_log.specs.History.{History, Told, beganAppend, beganCommit, beganCollect}
-use Rattle.valve_log.specs.Reached.{World, world, withState, stepDue, Event, called, stepped, cutShort, recovered, happen, Reached}
+use Rattle.valve_log.specs.History.{History, Told, beganAppend, beganCommit, beganCollect, putIn, beganFlush}
+use Rattle.valve_log.specs.Reached.{World, world, withState, stepDue, Event, called, stepped, cutShort, recovered, happen, Reached, lentAnew, filled}
 use Rattle.valve_log.specs.Steady.{expected, Answers, Steady}
 use Rattle.valve_log.proofs.Order.{all-sort, upto, sort-split}
 use Rattle.index.proofs.Members.{In, first, later, all-in}
 use Rattle.nodes.proofs.Alive.{in-live}
+use Rattle.valve_log.proofs.Small.{zip-length}
 use Rattle.valve_log.proofs.Sound.{outcome, accepts}
 use Rattle.valve_log.proofs.Coupling.{alive-of, Coupled}
+use Rattle.page.specs.Buffer.{holding}
+use Rattle.valve_log.proofs.Lent.{Lent, lent-of, with-fit}
 use Rattle.valve_log.proofs.Due.{Good}
 use Rattle.valve_log.proofs.Events.{Upheld, Sized, sized, there, erase-cut, due-good}
 use Rattle.valve_log.proofs.Formats.{Begins, basePage, started, in-format, starts}
 use Rattle.valve_log.proofs.Point3.{reached-upheld}
-use Rattle.valve_log.proofs.Ready.{Left, Ready, fit-ready, sound-part, fit-append, fit-commit, left-append, left-commit, left-collect, StepReady, step-ready}
+use Rattle.valve_log.proofs.Ready.{Left, Ready, fit-ready, sound-part, fit-append, fit-commit, left-append, left-commit, left-collect, left-flush, StepReady, step-ready}
 
 -- a state that is there is ready
 unfoldable pub StateReady : List View → Option Held → Type 0
@@ -47,29 +50,23 @@ StateReady v (some s) = Ready v s
 
 -- ---- operations begun
 
-zip-length : (ks ws : List ℕ) → length ks ≡ length ws → length (zip ks ws) ≡ length ks
-unfolding zip
-zip-length [] ws e = refl
-zip-length (k ∷ ks) [] e = absurd (omega arith)
-zip-length (k ∷ ks) (w ∷ ws) e = ap suc (zip-length ks ws (omega arith))
-
-module _ (n : ℕ) (v : List View) (s : Held) (h : History) (c : Coupled v (some s) h) (r : Ready v s) where
+module _ (n : ℕ) (v : List View) (s : Held) (bs : List ℕ) (h : History) (c : Coupled v (some s) h) (r : Ready v s) where
   begun-ready : (pend : Pending) → pendingFit v (s .head) (s .index) pend ≡ true → Left v (s .head) (s .index) pend → Ready v (starting s pend)
   begun-ready pend f l = record { size = r .size; heads = r .heads; pend = f; left = l }
 
   serial-one : 1 ≤ s .head .serial
   serial-one = omega (arith, alive-of (c .memory) .serials, c .medium .some-page)
 
-  append-begun : (ks ws : List ℕ) → every (tests (appendNeeds n v s ks ws)) ≡ true → Ready v (starting s (append (zip ks ws) []))
+  append-begun : (ks ws : List ℕ) → every (tests (appendNeeds n v s bs ks ws)) ≡ true → Ready v (starting s (append (zip ks ws) []))
   unfolding tests
   append-begun ks ws e =
-      let lists = every-at 3 _ e in
+      let lists = every-at 4 _ e in
       let z = zip-length ks ws (eqb-true (length ks) (length ws) (unfold listsOk in every-at 0 _ lists)) in
       let low : 1 ≤ length ks = leb-true 1 (length ks) (unfold listsOk in every-at 1 _ lists) in
       let high : length ks ≤ 96 = leb-true (length ks) 96 (unfold listsOk in every-at 2 _ lists) in
-      let room : pagesFor (length ks) + 16 ≤ available v (s .head) = leb-true (pagesFor (length ks) + 16) (available v (s .head)) (unfold roomFor in every-at 6 _ e) in
+      let room : pagesFor (length ks) + 16 ≤ available v (s .head) = leb-true (pagesFor (length ks) + 16) (available v (s .head)) (unfold roomFor in every-at 7 _ e) in
       begun-ready (append (zip ks ws) [])
-      (fit-append v (s .head) (s .index) (zip ks ws) [] (ok (omega arith) (omega arith) (every-at 4 _ e) (every-at 5 _ e)) serial-one (some-page (omega arith)))
+      (fit-append v (s .head) (s .index) (zip ks ws) [] (ok (omega arith) (omega arith) (every-at 5 _ e) (every-at 6 _ e)) serial-one (some-page (omega arith)))
       (left-append v (s .head) (s .index) (zip ks ws) [] (rw z (omega arith)))
     where
       ok : 1 ≤ length (zip ks ws) → length (zip ks ws) ≤ 96 → removalsOk (zip ks ws) ≡ true → within (s .index) (zip ks ws) ≡ true → groupOk (s .index) (zip ks ws) ≡ true
@@ -78,17 +75,23 @@ module _ (n : ℕ) (v : List View) (s : Held) (h : History) (c : Coupled v (some
       some-page : 1 ≤ length (zip ks ws) → 0 < pagesFor (length (zip ks ws))
       some-page a = unfold pagesFor in omega arith
 
-  commit-begun : every (tests (commitNeeds n v s)) ≡ true → Ready v (starting s (commit 0))
+  commit-begun : every (tests (commitNeeds n v s bs)) ≡ true → Ready v (starting s (commit 0))
   unfolding tests
   commit-begun e =
-      let room : basePages (length (s .index)) ≤ available v (s .head) = leb-true (basePages (length (s .index))) (available v (s .head)) (unfold roomFor in every-at 3 _ e) in
+      let room : basePages (length (s .index)) ≤ available v (s .head) = leb-true (basePages (length (s .index))) (available v (s .head)) (unfold roomFor in every-at 4 _ e) in
       begun-ready (commit 0) (fit-commit v (s .head) (s .index) 0 serial-one (unfold basePages in omega arith)) (left-commit v (s .head) (s .index) 0 (omega arith))
 
-  collect-begun : (b : ℕ) → every (tests (collectNeeds n v s b)) ≡ true → Ready v (starting s (collect b))
+  collect-begun : (b : ℕ) → every (tests (collectNeeds n v s bs b)) ≡ true → Ready v (starting s (collect b))
   unfolding tests
   collect-begun b e =
-      let room : pagesFor (length (live (s .index) b)) ≤ available v (s .head) = leb-true (pagesFor (length (live (s .index) b))) (available v (s .head)) (unfold roomFor in every-at 5 _ e) in
-      begun-ready (collect b) (unfold pendingFit in every-at 3 _ e) (left-collect v (s .head) (s .index) b room)
+      let room : pagesFor (length (live (s .index) b)) ≤ available v (s .head) = leb-true (pagesFor (length (live (s .index) b))) (available v (s .head)) (unfold roomFor in every-at 6 _ e) in
+      begun-ready (collect b) (unfold pendingFit in every-at 4 _ e) (left-collect v (s .head) (s .index) b room)
+
+  flush-begun : every (tests (flushNeeds n v s bs)) ≡ true → Ready v (starting s flush)
+  unfolding tests
+  flush-begun e =
+      let room : 1 + 16 ≤ available v (s .head) = leb-true (1 + 16) (available v (s .head)) (unfold roomFor in every-at 6 _ e) in
+      begun-ready flush (unfold pendingFit in refl) (left-flush v (s .head) (s .index) (omega arith))
 
 -- ---- recovery's state
 
@@ -159,21 +162,29 @@ starts-ready w B = rw (B .holds) (unfold StateReady in ready)
 
 -- ---- any event
 
-module _ (m : List ℕ) (s : Held) (h : History) (U : Upheld (world m (some s)) h) (r : Ready (views m) s) where
-  call-ready : (t : Told) (cs : List Need) (s′ : Held) → (every (tests cs) ≡ true → Ready (views m) s′) → StateReady (views (called (world m (some s)) t (checked Call.refused cs (Call.begun s′)) .after .medium)) (called (world m (some s)) t (checked Call.refused cs (Call.begun s′)) .after .state)
+module _ (m : List ℕ) (s : Held) (bs : List ℕ) (h : History) (U : Upheld (world m (some s) bs) h) (r : Ready (views m) s) where
+  call-ready : (t : Told) (cs : List Need) (s′ : Held) → (every (tests cs) ≡ true → Ready (views m) s′)
+      → StateReady (views (called (world m (some s) bs) t (checked Call.refused cs (Call.begun s′)) .after .medium)) (called (world m (some s) bs) t (checked Call.refused cs (Call.begun s′)) .after .state)
   call-ready t cs s′ f =
-      checked-cases (λ (c : Call). StateReady (views (called (world m (some s)) t c .after .medium)) (called (world m (some s)) t c .after .state)) Call.refused cs (Call.begun s′)
+      checked-cases (λ (c : Call). StateReady (views (called (world m (some s) bs) t c .after .medium)) (called (world m (some s) bs) t c .after .state)) Call.refused cs (Call.begun s′)
       (λ n. unfold called StateReady in r) (λ e. unfold called StateReady in f e)
 
-  stepped-ready : (st : Step) → Good (views m) s h st → StepReady (views m) st → StateReady (views (stepped (world m (some s)) st .after .medium)) (stepped (world m (some s)) st .after .state)
+  buffer-ready : (t : Told) (cs : List Need) (b : List ℕ)
+      → StateReady (views (filled (world m (some s) bs) t (checked Buffering.refused cs (Buffering.buffered b)) .after .medium)) (filled (world m (some s) bs) t (checked Buffering.refused cs (Buffering.buffered b)) .after .state)
+  buffer-ready t cs b =
+      checked-cases (λ (c : Buffering). StateReady (views (filled (world m (some s) bs) t c .after .medium)) (filled (world m (some s) bs) t c .after .state)) Buffering.refused cs (Buffering.buffered b)
+      (λ n. unfold filled StateReady in r) (λ e. unfold filled StateReady in r)
+
+  stepped-ready : (st : Step) → Good (views m) s bs h st → StepReady (views m) st → StateReady (views (stepped (world m (some s) bs) st .after .medium)) (stepped (world m (some s) bs) st .after .state)
   unfolding stepped mediumAfter Good StepReady StateReady
   stepped-ready (Step.refused n) G R = r
-  stepped-ready (Step.program p pg s′ finished) G R = rw (program-views m p pg (there m s h U p pg s′ G) (G .fits-in)) R
-  stepped-ready (Step.erase b s′ finished) G R = R (views (erased m b)) (erase-cut m s h U b s′ G)
+  stepped-ready (Step.program p pg s′ finished) G R = rw (program-views m p pg (there m s bs h U p pg s′ G) (G .fits-in)) R
+  stepped-ready (Step.erase b s′ finished) G R = R (views (erased m b)) (erase-cut m s bs h U b s′ G)
 
-recover-ready : (m : List ℕ) (s : Option Held) (h : History) → Upheld (world m s) h → StateReady (views (recovered (world m s) (Recovery.recover (length m) (views m)) .after .medium)) (recovered (world m s) (Recovery.recover (length m) (views m)) .after .state)
+recover-ready : (m : List ℕ) (s : Option Held) (b : List ℕ) (h : History) → Upheld (world m s b) h
+    → StateReady (views (recovered (world m s b) (Recovery.recover (length m) (views m)) .after .medium)) (recovered (world m s b) (Recovery.recover (length m) (views m)) .after .state)
 unfolding recovered StateReady
-recover-ready m s h U = rw (accepts (U .coupled .medium) (length m) (U .size)) (recovered-ready (U .coupled) even low)
+recover-ready m s b h U = rw (accepts (U .coupled .medium) (length m) (U .size)) (recovered-ready (U .coupled) even low)
   where
     S : Sized (length m)
     S = sized (length m) (U .size)
@@ -190,24 +201,31 @@ cut-ready w left (Step.refused n) = tt
 cut-ready w left (Step.program p pg s finished) = tt
 cut-ready w left (Step.erase b s finished) = tt
 
-event-ready : (m : List ℕ) (s : Option Held) (h : History) (e : Event (world m s)) → Upheld (world m s) h → StateReady (views m) s → StateReady (views (happen (world m s) e .after .medium)) (happen (world m s) e .after .state)
+event-ready : (m : List ℕ) (s : Option Held) (b : List ℕ) (h : History) (e : Event (world m s b)) → Upheld (world m s b) h → StateReady (views m) s
+    → StateReady (views (happen (world m s b) e .after .medium)) (happen (world m s b) e .after .state)
 unfolding happen withState stepDue
-event-ready m none h (Event.append ks ws a b) U r = r
-event-ready m (some s) h (Event.append ks ws a b) U r = unfold appendOf StateReady in call-ready m s h U r (beganAppend (zip ks ws)) (appendNeeds (length m) (views m) s ks ws) (starting s (append (zip ks ws) [])) (append-begun (length m) (views m) s h (U .coupled) r ks ws)
-event-ready m none h Event.commit U r = r
-event-ready m (some s) h Event.commit U r = unfold commitOf StateReady in call-ready m s h U r beganCommit (commitNeeds (length m) (views m) s) (starting s (commit 0)) (commit-begun (length m) (views m) s h (U .coupled) r)
-event-ready m none h (Event.collect b) U r = r
-event-ready m (some s) h (Event.collect b) U r = unfold collectOf StateReady in call-ready m s h U r beganCollect (collectNeeds (length m) (views m) s b) (starting s (collect b)) (collect-begun (length m) (views m) s h (U .coupled) r b)
-event-ready m none h Event.step U r = unfold stepped in r
-event-ready m (some s) h Event.step U r = unfold StateReady in stepped-ready m s h U r (stepOf (length m) (views m) s) (due-good m s h U) (step-ready (views m) s h (U .coupled) r (length m) (U .size))
-event-ready m s h Event.recover U r = recover-ready m s h U
-event-ready m s h Event.read U r = r
-event-ready m s h Event.cut U r = unfold StateReady in tt
-event-ready m s h (Event.cutInside left c) U r = cut-ready (world m s) left (stepDue (world m s))
+event-ready m none b h (Event.append ks ws x y) U r = r
+event-ready m (some s) b h (Event.append ks ws x y) U r =
+    unfold appendOf StateReady in call-ready m s b h U r (beganAppend (zip ks ws)) (appendNeeds (length m) (views m) s b ks ws) (starting s (append (zip ks ws) [])) (append-begun (length m) (views m) s b h (U .coupled) r ks ws)
+event-ready m none b h Event.commit U r = r
+event-ready m (some s) b h Event.commit U r = unfold commitOf StateReady in call-ready m s b h U r beganCommit (commitNeeds (length m) (views m) s b) (starting s (commit 0)) (commit-begun (length m) (views m) s b h (U .coupled) r)
+event-ready m none b h (Event.collect k) U r = r
+event-ready m (some s) b h (Event.collect k) U r =
+    unfold collectOf StateReady in call-ready m s b h U r beganCollect (collectNeeds (length m) (views m) s b k) (starting s (collect k)) (collect-begun (length m) (views m) s b h (U .coupled) r k)
+event-ready m none b h (Event.buffer ks ws x y) U r = r
+event-ready m (some s) b h (Event.buffer ks ws x y) U r = unfold bufferOf StateReady in buffer-ready m s b h U r (putIn (zip ks ws)) (bufferNeeds (length m) (views m) s b ks ws) (holding (bufferedIn b ++ (zip ks ws ∷ [])))
+event-ready m none b h Event.flush U r = r
+event-ready m (some s) b h Event.flush U r = unfold flushOf StateReady in call-ready m s b h U r beganFlush (flushNeeds (length m) (views m) s b) (starting s flush) (flush-begun (length m) (views m) s b h (U .coupled) r)
+event-ready m none b h Event.step U r = unfold stepped in r
+event-ready m (some s) b h Event.step U r = unfold StateReady in stepped-ready m s b h U r (stepOf (length m) (views m) s b) (due-good m s b h U) (step-ready (views m) s h (U .coupled) r b (lent-of (U .lending)) (length m) (U .size))
+event-ready m s b h Event.recover U r = recover-ready m s b h U
+event-ready m s b h Event.read U r = r
+event-ready m s b h Event.cut U r = unfold StateReady in tt
+event-ready m s b h (Event.cutInside left c) U r = cut-ready (world m s b) left (stepDue (world m s b))
 
 pub reached-ready : (w : World) (h : History) → Reached w h → StateReady (views (w .medium)) (w .state)
-reached-ready w h (Reached.start v F e) = starts-ready (happen v Event.step .after) (starts (v .medium) (v .state) (in-format v F) e)
-reached-ready w h (Reached.next v g e r) = event-ready (v .medium) (v .state) g e (reached-upheld v g r) (reached-ready v g r)
+reached-ready w h (Reached.start v F e) = starts-ready (lentAnew (happen v Event.step .after)) (starts (v .medium) (v .buffer) (v .state) (in-format v F) e)
+reached-ready w h (Reached.next v g e r) = event-ready (v .medium) (v .state) (v .buffer) g e (reached-upheld v g r) (reached-ready v g r)
 
 -- ---- what the calls answer
 
@@ -233,7 +251,7 @@ call-fair cs s′ F =
     (λ n q. let z : _≡_ {A = ℕ} 0 1 = cc in absurd (omega arith))
 
 -- a valve that is set has a place in the index
-in-lookup : (valve : ℕ) (l : List Place) → isSome (lookup valve l) ≡ true → In (cell valve (valueOr 0 (lookup valve l))) l
+pub in-lookup : (valve : ℕ) (l : List Place) → isSome (lookup valve l) ≡ true → In (cell valve (valueOr 0 (lookup valve l))) l
 unfolding lookup isSome valueOr
 in-lookup valve [] e = absurd (true-false e refl)
 in-lookup valve (x ∷ l) e =
@@ -243,32 +261,54 @@ in-lookup valve (x ∷ l) e =
     here : valve ≡ x .key → In (cell valve (x .val)) (x ∷ l)
     here q = rw q first
 
-module _ (m : List ℕ) (s : Held) (h : History) (U : Upheld (world m (some s)) h) (r : Ready (views m) s) where
+module _ (m : List ℕ) (s : Held) (bs : List ℕ) (h : History) (U : Upheld (world m (some s) bs) h) (r : Ready (views m) s) where
   abbrev v : List View
   v = views m
 
   fits : fit v s ≡ true
   fits = fit-ready v s h (U .coupled) r
 
+  L : Lent s bs h
+  L = lent-of (U .lending)
+
+  fits-with : fitWith v s bs ≡ true
+  fits-with = with-fit v L fits
+
   index-sound : sound v (s .index) ≡ true
   index-sound = ap (sound v) (alive-of (U .coupled .memory) .indices) ∙ U .coupled .medium .sounds
 
-  append-answers : (ks ws : List ℕ) (n : ℕ) → appendOf (length m) v s ks ws ≡ Call.refused n → expected n ≡ true
+  -- its word stands at its address
+  pub has-word : (valve : ℕ) → isSome (lookup valve (s .index)) ≡ true → isSome (wordAt v (placeOf s valve)) ≡ true
+  unfolding sound
+  has-word valve e = all-in (λ (x : Cell). isSome (wordAt v x)) index-sound (in-lookup valve (s .index) e)
+
+  append-answers : (ks ws : List ℕ) (n : ℕ) → appendOf (length m) v s bs ks ws ≡ Call.refused n → expected n ≡ true
   unfolding appendOf expected every
-  append-answers ks ws = call-fair (appendNeeds (length m) v s ks ws) (starting s (append (zip ks ws) [])) (met (U .size) (met fits (may refl (may refl (may refl (may refl (may refl (may refl end))))))))
+  append-answers ks ws = call-fair (appendNeeds (length m) v s bs ks ws) (starting s (append (zip ks ws) [])) (met (U .size) (met fits-with (may refl (may refl (may refl (may refl (may refl (may refl (may refl end)))))))))
 
-  commit-answers : (n : ℕ) → commitOf (length m) v s ≡ Call.refused n → expected n ≡ true
+  commit-answers : (n : ℕ) → commitOf (length m) v s bs ≡ Call.refused n → expected n ≡ true
   unfolding commitOf expected every
-  commit-answers = call-fair (commitNeeds (length m) v s) (starting s (commit 0)) (met (U .size) (met fits (may refl (may refl (may refl end)))))
+  commit-answers = call-fair (commitNeeds (length m) v s bs) (starting s (commit 0)) (met (U .size) (met fits-with (may refl (may refl (may refl (may refl end))))))
 
-  collect-answers : (b n : ℕ) → collectOf (length m) v s b ≡ Call.refused n → expected n ≡ true
+  collect-answers : (b n : ℕ) → collectOf (length m) v s bs b ≡ Call.refused n → expected n ≡ true
   unfolding collectOf expected every
   collect-answers b =
-      call-fair (collectNeeds (length m) v s b) (starting s (collect b))
-      (met (U .size) (met fits (may refl (may refl (met (sound-part v (s .index) (live (s .index) b) index-sound (λ x i. in-live (s .index) b i)) (may refl (may refl end)))))))
+      call-fair (collectNeeds (length m) v s bs b) (starting s (collect b))
+      (met (U .size) (met fits-with (may refl (may refl (may refl (met (sound-part v (s .index) (live (s .index) b) index-sound (λ x i. in-live (s .index) b i)) (may refl (may refl end))))))))
 
-  step-answers : (n : ℕ) → stepOf (length m) v s ≡ Step.refused n → expected n ≡ true
-  step-answers = go (stepOf (length m) v s) (step-ready v s h (U .coupled) r (length m) (U .size))
+  flush-answers : (n : ℕ) → flushOf (length m) v s bs ≡ Call.refused n → expected n ≡ true
+  unfolding flushOf expected every
+  flush-answers = call-fair (flushNeeds (length m) v s bs) (starting s flush) (met (U .size) (met fits-with (may refl (may refl (may refl (may refl (may refl (may refl end))))))))
+
+  buffer-answers : (ks ws : List ℕ) (n : ℕ) → bufferOf (length m) v s bs ks ws ≡ Buffering.refused n → expected n ≡ true
+  unfolding bufferOf expected every
+  buffer-answers ks ws =
+      fair (λ (c : Buffering). (n : ℕ) → c ≡ Buffering.refused n → expected n ≡ true) Buffering.refused (Buffering.buffered (holding (bufferedIn bs ++ (zip ks ws ∷ [])))) (bufferNeeds (length m) v s bs ks ws)
+      (met (U .size) (met fits-with (may refl (may refl (may refl (may refl (may refl (may refl (may refl end))))))))) (λ k e n q. let z : k ≡ n = cc in rw z at e)
+      (λ n q. let z : _≡_ {A = ℕ} 0 1 = cc in absurd (omega arith))
+
+  step-answers : (n : ℕ) → stepOf (length m) v s bs ≡ Step.refused n → expected n ≡ true
+  step-answers = go (stepOf (length m) v s bs) (step-ready v s h (U .coupled) r bs L (length m) (U .size))
     where
       go : (st : Step) → StepReady v st → (n : ℕ) → st ≡ Step.refused n → expected n ≡ true
       go (Step.refused k) R n e = let q : k ≡ n = cc in let t : expected k ≡ true = unfold StepReady in R in rw q at t
@@ -306,32 +346,42 @@ module _ (m : List ℕ) (s : Held) (h : History) (U : Upheld (world m (some s)) 
       back k e n q = let z : k ≡ n = cc in rw z at e
 
       set : isSome (lookup valve (s .index)) ≡ true → Told-fairly (checked Opening.turnedBack (openingNeeds (length m) v s valve) (Opening.word (valueOr 0 (wordAt v (placeOf s valve)))))
-      set e =
-          let w : isSome (wordAt v (placeOf s valve)) ≡ true = unfold sound in all-in (λ (x : Cell). isSome (wordAt v x)) (unfold sound in index-sound) (in-lookup valve (s .index) e) in
-          unfold checked in rw (U .size, fits, e, w) (λ n q. let z : _≡_ {A = ℕ} 0 1 = cc in absurd (omega arith))
+      set e = unfold checked in rw (U .size, fits, e, has-word valve e) (λ n q. let z : _≡_ {A = ℕ} 0 1 = cc in absurd (omega arith))
 
       unset : isSome (lookup valve (s .index)) ≡ false → Told-fairly (checked Opening.turnedBack (openingNeeds (length m) v s valve) (Opening.word (valueOr 0 (wordAt v (placeOf s valve)))))
       unset e = unfold checked in rw (U .size, fits, e) (back 18 (unfold expected every in refl))
+
+  word-answers : (valve : ℕ) → expected (wordNumber m v s bs valve) ≡ true
+  unfolding wordNumber sought soughtIn numberOf checked expected every
+  word-answers valve = go (lastNaming valve 0 (changesOf (bufferedIn bs)))
+    where
+      go : (o : Option ℕ) → expected (numberOf (need 1 (sizeOk (length m)) ∷ need 7 (fitWith v s bs) ∷ soughtIn m v s bs valve o .needs)) ≡ true
+      go (some i) = by-cases (setsAt (changesOf (bufferedIn bs)) i) (λ e. rw (U .size, fits-with, e)) (λ e. rw (U .size, fits-with, e))
+      go none =
+          by-cases (isSome (lookup valve (s .index))) (λ e. rw (U .size, fits-with, e, has-word valve e)) (λ e. rw (U .size, fits-with, e))
 
 -- ---- the theorem
 
 pub steady : Steady
 unfolding Steady
-steady w h s R e = answers (w .medium) (w .state) (reached-upheld w h R) (reached-ready w h R) e
+steady w h s R e = answers (w .medium) (w .buffer) (w .state) (reached-upheld w h R) (reached-ready w h R) e
   where
-    answers : (m : List ℕ) (o : Option Held) → Upheld (world m o) h → StateReady (views m) o → o ≡ some s → Answers m s
-    answers m none U r e = let z : _≡_ {A = ℕ} 0 1 = cc in absurd (omega arith)
-    answers m (some t) U r e =
+    answers : (m bs : List ℕ) (o : Option Held) → Upheld (world m o bs) h → StateReady (views m) o → o ≡ some s → Answers m s bs
+    answers m bs none U r e = let z : _≡_ {A = ℕ} 0 1 = cc in absurd (omega arith)
+    answers m bs (some t) U r e =
         let q : t ≡ s = cc in
         let r′ : Ready (views m) t = unfold StateReady in r in
         rw (← q)
         (record {
-          append = append-answers m t h U r′;
-          commit = commit-answers m t h U r′;
-          collect = collect-answers m t h U r′;
-          step = step-answers m t h U r′;
-          opening = opening-answers m t h U r′;
-          pick = pick-answers m t h U r′;
-          survey = survey-answers m t h U r′;
-          available = available-answers m t h U r′;
+          append = append-answers m t bs h U r′;
+          commit = commit-answers m t bs h U r′;
+          collect = collect-answers m t bs h U r′;
+          buffer = buffer-answers m t bs h U r′;
+          flush = flush-answers m t bs h U r′;
+          step = step-answers m t bs h U r′;
+          opening = opening-answers m t bs h U r′;
+          word = word-answers m t bs h U r′;
+          pick = pick-answers m t bs h U r′;
+          survey = survey-answers m t bs h U r′;
+          available = available-answers m t bs h U r′;
         })

@@ -7,27 +7,29 @@ use Prim.Native.Nat.{ℕ, suc, _+_, _-_, _*_, _^_, _≤_, _<_}
 use native.Mathlib.Omega.{arith}
 use lib.Dec.{ltb, eqb}
 use lib.ListN.{length, set, length-append}
-use borrow.Author.Tests.{leb-true, leb-false, eq-eqb, ne-eqb}
+use borrow.Author.Tests.{leb-true, leb-false, le-leb, eq-eqb, ne-eqb}
 use Rattle.lists.specs.declared.Cell.{Cell}
 use Rattle.lists.specs.Lists.{all, every, valueOr}
 use Rattle.lists.specs.Cells.{cell, Entry, Place, Setting, keysOf}
-use Rattle.lists.proofs.Laws.{every-at}
-use Rattle.page.specs.Pages.{Page, View, whole, page, begins, ends, isClean, pagesFor}
-use Rattle.page.specs.Rules.{lawful}
+use Rattle.lists.proofs.Laws.{every-at, all-head}
+use Rattle.page.specs.Pages.{Page, View, whole, page, begins, ends, isClean, pagesFor, changesOf}
+use Rattle.page.specs.Rules.{serialOk, lawful}
+use Rattle.page.specs.Buffer.{groupsIn, groupsPage}
+use Rattle.page.proofs.Buffer.{filled, Fitting, lawful-groups, groups-back}
 use Rattle.flash.specs.Medium.{seen}
 use Rattle.flash.proofs.Steps.{seen-set}
 use Rattle.index.specs.Index.{rising, within, assignAll}
 use Rattle.nodes.specs.Nodes.{setsValves, wordAt, words}
-use Rattle.state.specs.State.{idle, append, commit, collect, Held, held, basePages, groupOk}
-use Rattle.recovery.specs.Recovery.{Placed, placed, kindOf, wholes, sort, baseOf, startsGroup, goesOn, from, consecutive, Group, group, between, joined, begun, walk, groupsOf, entriesOf, logOf, pagesOf, above, enterPages}
+use Rattle.state.specs.State.{idle, append, commit, collect, Held, held, basePages, groupOk, flushOk}
+use Rattle.recovery.specs.Recovery.{Placed, placed, kindOf, wholes, sort, baseOf, startsGroup, goesOn, from, consecutive, Group, group, between, joined, begun, walk, groupsOf, entriesOf, groupsOnPages, logOfGroup, logOf, pagesOf, above, enterPages}
 use Rattle.recovery.proofs.Pages.{pages-append}
-use Rattle.step.specs.Step.{isLast, groupPage, moved, addressed, appended, committed, collected}
-use Rattle.valve_log.specs.History.{nothing, appending, committing, collecting, History, history, counted}
+use Rattle.step.specs.Step.{isLast, groupPage, moved, addressed, appended, committed, collected, flushed}
+use Rattle.valve_log.specs.History.{nothing, appending, committing, collecting, flushing, History, history, assignGroups, counted}
 use Rattle.valve_log.proofs.Order.{from-parts, from-from, from-sort, walk-append, isBegin, base-snoc, base-group, starts-one, starts-more, consecutive-left, consecutive-right, consecutive-reaches, consecutive-below}
 use Rattle.index.proofs.Keys.{within-same}
 use Rattle.index.proofs.Members.{In, in-all, all-in}
 use Rattle.nodes.proofs.Alive.{keys-words, words-length}
-use Rattle.valve_log.proofs.Index.{valves, nodes, nodesOf, keys-group, rising-words, valves-words, tidy-assign, in-words, move-same, move-within}
+use Rattle.valve_log.proofs.Index.{valves, nodes, nodesOf, keys-group, rising-words, valves-words, tidy-assign, assign-append, in-words, move-same, move-within}
 use Rattle.flash.proofs.Laws.{clean-in}
 use Rattle.valve_log.proofs.Present.{PresentAll, nil, cons, present-snoc, present-set, group-words, group-sound}
 use Rattle.valve_log.proofs.Small.{Small}
@@ -38,19 +40,19 @@ use Rattle.valve_log.proofs.Coupling.{at-rest, in-append, in-commit, in
 
 -- ---- the history's count of pages
 
-counted-append-last : (h : History) (es : List Entry) (left : ℕ) → left ≡ 1 → counted h (appending es left) ≡ history (assignAll (h .settings) es) (h .log ++ (es ∷ [])) nothing
+counted-append-last : (h : History) (es : List Entry) (left : ℕ) → left ≡ 1 → counted h (appending es left) ≡ history (assignAll (h .settings) es) (h .log ++ (es ∷ [])) nothing (h .buffered)
 unfolding counted
 counted-append-last h es left e = rw e
 
-counted-append-more : (h : History) (es : List Entry) (left n : ℕ) → left ≡ suc (suc n) → counted h (appending es left) ≡ history (h .settings) (h .log) (appending es (suc n))
+counted-append-more : (h : History) (es : List Entry) (left n : ℕ) → left ≡ suc (suc n) → counted h (appending es left) ≡ history (h .settings) (h .log) (appending es (suc n)) (h .buffered)
 unfolding counted
 counted-append-more h es left n e = rw e
 
-counted-commit-last : (h : History) (left : ℕ) → left ≡ 1 → counted h (committing left) ≡ history (h .settings) [] nothing
+counted-commit-last : (h : History) (left : ℕ) → left ≡ 1 → counted h (committing left) ≡ history (h .settings) [] nothing (h .buffered)
 unfolding counted
 counted-commit-last h left e = rw e
 
-counted-commit-more : (h : History) (left n : ℕ) → left ≡ suc (suc n) → counted h (committing left) ≡ history (h .settings) (h .log) (committing (suc n))
+counted-commit-more : (h : History) (left n : ℕ) → left ≡ suc (suc n) → counted h (committing left) ≡ history (h .settings) (h .log) (committing (suc n)) (h .buffered)
 unfolding counted
 counted-commit-more h left n e = rw e
 
@@ -144,6 +146,22 @@ same-nodes : (v : List View) (a : ℕ) (l : List Place) → nodes a l ≡ nodes 
 unfolding nodes words
 same-nodes v a [] = refl
 same-nodes v a (x ∷ l) = ap (λ (t : List Place). cell (x .key) a ∷ t) (same-nodes v (suc a) l)
+
+-- ---- the groups of a flush
+
+pub assign-groups : (l : List Setting) (gs : List (List Entry)) → assignGroups l gs ≡ assignAll l (changesOf gs)
+unfolding assignGroups changesOf
+assign-groups l [] = unfold assignAll in refl
+assign-groups l (g ∷ gs) = assign-groups (assignAll l g) gs ∙ sym (assign-append l g (changesOf gs))
+
+some-entries : (gs : List (List Entry)) → all filled gs ≡ true → 1 ≤ length gs → 1 ≤ length (changesOf gs)
+unfolding changesOf
+some-entries [] h n = absurd (omega arith)
+some-entries (g ∷ gs) h n = let m : 1 ≤ length g = leb-true 1 (length g) (all-head filled g gs h) in omega (arith, length-append g (changesOf gs))
+
+serial-ok : (n : ℕ) → 1 ≤ n → n + 1 ≤ 2 ^ 64 - 1 → serialOk n ≡ true
+unfolding serialOk
+serial-ok n a b = let m : n ≤ 2 ^ 64 - 2 = omega arith in rw (le-leb 1 n a, le-leb n (2 ^ 64 - 2) m)
 
 -- ---- a page more
 
@@ -302,7 +320,7 @@ module _ (v : List View) (s : Held) (h : History) {ch : List Placed} {gs : List 
         within-is = within-same (s .index) (s .index) (nodesOf written) es refl (keys-group written ∙ ap keysOf entries-are) ∙ (unfold groupOk in every-at 3 _ okays)
 
         log-is : h .log ++ logOf (group 1 written ∷ []) ≡ h .log ++ (es ∷ [])
-        log-is = unfold logOf in ap (λ (z : List Entry). h .log ++ (z ∷ [])) entries-are
+        log-is = unfold logOf logOfGroup in ap (λ (z : List Entry). h .log ++ (z ∷ [])) entries-are
 
   -- ---- a page of a commit
 
@@ -392,7 +410,7 @@ module _ (v : List View) (s : Held) (h : History) {ch : List Placed} {gs : List 
           based = laid-base 2 (s .index) ps f p now firsts e refl;
           walks = ap groupsOf (cm-alone ∙ ap (joined [] 2 stored) e) ∙ (unfold joined groupsOf in refl);
           replays = replayed;
-          logs = unfold logOf in refl;
+          logs = unfold logOf logOfGroup in refl;
           sounds = g .sounds;
           shows = g .shows;
           tidy = S .tidy;
@@ -476,8 +494,62 @@ module _ (v : List View) (s : Held) (h : History) {ch : List Placed} {gs : List 
           idx = assignAll (s .index) (nodesOf (placed p mp ∷ []));
           medium =
               complete p mp (group 3 (placed p mp ∷ [])) (h .log) (h .settings) cleans cl-lawful refl refl refl cl-walk (unfold all in refl) cl-within cl-present
-              (unfold logOf in append-nil (h .log)) (ap (assignAll (h .settings)) cl-entries ∙ move-same v (h .settings) moves cl-rising cl-mem cl-valves);
+              (unfold logOf logOfGroup in append-nil (h .log)) (ap (assignAll (h .settings)) cl-entries ∙ move-same v (h .settings) moves cl-rising cl-mem cl-valves);
           memory =
               alive {s = held (moved (s .head) p (s .head .base)) (assignAll (s .index) (addressed moves (p ∷ []))) (collect blk) (s .erased)}
               (record { serials = omega (arith, length-append ch (placed p mp ∷ [])); bases = refl; indices = ap (assignAll (s .index)) cl-nodes; pends = rw under in-collect });
+        }
+
+  -- ---- the page of a flush
+
+  module _ (small : List (List Entry)) (p : ℕ) (fitting : Fitting small) (okays : flushOk (s .index) small ≡ true) (starts : 1 ≤ s .head .serial) (room : s .head .serial + 1 ≤ 2 ^ 64 - 1) (cleans : isClean (seen v p) ≡ true) where
+    abbrev fp : Page
+    fp = groupsPage (s .head .serial) small
+
+    fl-many : 1 ≤ length (changesOf small)
+    fl-many = some-entries small (fitting .each) (unfold flushOk in leb-true 1 (length small) (every-at 0 _ okays))
+
+    pub fl-lawful : lawful fp ≡ true
+    fl-lawful = lawful-groups (s .head .serial) small fitting fl-many (serial-ok (s .head .serial) starts room)
+
+    fl-kind : fp .kind ≡ 4
+    fl-kind = unfold groupsPage in refl
+
+    fl-entries : entriesOf (placed p fp ∷ []) ≡ changesOf small
+    unfolding entriesOf groupsPage
+    fl-entries = append-nil (changesOf small)
+
+    fl-nodes : addressed (changesOf small) (p ∷ []) ≡ nodesOf (placed p fp ∷ [])
+    unfolding nodesOf groupsPage
+    fl-nodes = addressed-one (changesOf small) p (omega (arith, fitting .few)) ∙ sym (append-nil (nodes (24 * p) (changesOf small)))
+
+    fl-within : within (s .index) (nodesOf (placed p fp ∷ [])) ≡ true
+    fl-within = within-same (s .index) (s .index) (nodesOf (placed p fp ∷ [])) (changesOf small) refl (keys-group (placed p fp ∷ []) ∙ ap keysOf fl-entries) ∙ (unfold flushOk in every-at 2 _ okays)
+
+    fl-walk : walk (between []) (ch ++ (placed p fp ∷ [])) ≡ between (gs ++ (group 4 (placed p fp ∷ []) ∷ []))
+    unfolding walk begins ends begun joined groupsPage
+    fl-walk = walk-append (between []) ch (placed p fp ∷ []) ∙ enter-begin (walk (between []) ch) gs (placed p fp) (S .walks) refl
+
+    fl-present : PresentAll (set v p (whole fp)) (placed p fp ∷ [])
+    fl-present = cons (record { there = seen-set v p (whole fp) (clean-in v p cleans); bears = unfold setsValves groupsPage in refl; short = unfold groupsPage in omega (arith, fitting .few) }) nil
+
+    fl-log : h .log ++ logOf (group 4 (placed p fp ∷ []) ∷ []) ≡ h .log ++ small
+    unfolding logOf logOfGroup groupsOnPages
+    fl-log = ap (λ (z : List (List Entry)). h .log ++ z) (append-nil (groupsIn fp ++ []) ∙ append-nil (groupsIn fp) ∙ groups-back (s .head .serial) small fitting)
+
+    pub fl-last : Coupled (set v p (whole fp)) (some (flushed s small p)) (counted h (flushing small 1))
+    unfolding flushed moved counted
+    fl-last =
+        record {
+          b = s .head .base;
+          ch = ch ++ (placed p fp ∷ []);
+          gs = gs ++ (group 4 (placed p fp ∷ []) ∷ []);
+          idx = assignAll (s .index) (nodesOf (placed p fp ∷ []));
+          medium =
+              complete p fp (group 4 (placed p fp ∷ [])) (h .log ++ small) (assignGroups (h .settings) small) cleans fl-lawful (unfold groupsPage in refl) (unfold groupsPage in refl) refl fl-walk
+              (unfold all groupsPage in refl) fl-within fl-present
+              fl-log (ap (assignAll (h .settings)) fl-entries ∙ sym (assign-groups (h .settings) small));
+          memory =
+              alive {s = held (moved (s .head) p (s .head .base)) (assignAll (s .index) (addressed (changesOf small) (p ∷ []))) idle (s .erased)}
+              (record { serials = omega (arith, length-append ch (placed p fp ∷ [])); bases = refl; indices = ap (assignAll (s .index)) fl-nodes; pends = at-rest });
         }

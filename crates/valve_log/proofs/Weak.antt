@@ -19,17 +19,18 @@ use Rattle.flash.specs.Medium.{views, seen}
 use Rattle.flash.proofs.Laws.{length-views, clean-in}
 use Rattle.blocks.specs.Blocks.{sizeOk, newHead, pageDue}
 use Rattle.nodes.specs.Nodes.{live}
-use Rattle.state.specs.State.{Pending, idle, append, commit, collect, format, unnamed, Held, wasErased, nowErased, fit, isIdle}
+use Rattle.state.specs.State.{Pending, idle, append, commit, collect, format, flush, unnamed, Held, wasErased, nowErased, fitWith, bufferedIn, isIdle}
 use Rattle.state.proofs.Records.{none-was, none-length, others-was, now-length}
 use Rattle.recovery.specs.Recovery.{Recovery, recoveredState}
 use Rattle.recovery.specs.Recovery
-use Rattle.calls.specs.Calls.{Call, starting, zip, appendOf, commitOf, collectOf, formatting, formatOf}
-use Rattle.step.specs.Step.{Step, isLast, moved, appended, committed, collected, formatted, erasing, pageNeeds, programming, appendStep, commitStep, moveStep, collectStep, formatStep, due, programsDue, needsErase, erasedFirst, stepOf}
+use Rattle.calls.specs.Calls.{Call, Buffering, starting, zip, appendOf, commitOf, collectOf, bufferOf, flushOf, formatting, formatOf}
+use Rattle.step.specs.Step.{Step, isLast, moved, appended, committed, collected, flushed, formatted, erasing, pageNeeds, programming, appendStep, commitStep, moveStep, collectStep, formatStep, flushStep, due, programsDue, needsErase, erasedFirst, stepOf}
 use Rattle.step.proofs.Laws.{has-record, first-cases}
-use Rattle.valve_log.specs.History.{History, Told, beganAppend, beganCommit, beganCollect}
-use Rattle.valve_log.specs.Reached.{World, world, withState, stepDue, Event, called, stepped, cutShort, recovered, happen, Formatting, Reached}
+use Rattle.valve_log.specs.History.{History, Told, beganAppend, beganCommit, beganCollect, putIn, beganFlush}
+use Rattle.valve_log.specs.Reached.{World, world, withState, stepDue, Event, called, filled, stepped, cutShort, recovered, happen, Formatting, Reached}
 use Rattle.valve_log.specs.Weak.{Weak, afterErase, afterStep, weakAfter, weakInFormat, weakIn, NeverWeak, Follows}
 use Rattle.valve_log.proofs.Coupling.{Fits, fits}
+use Rattle.valve_log.proofs.Lent.{state-fit}
 use Rattle.valve_log.proofs.Events.{sized}
 
 -- ---- what is followed
@@ -53,6 +54,8 @@ unfolding weakAfter
 other-after weak w (Event.append ks ws narrow small) c f = refl
 other-after weak w Event.commit c f = refl
 other-after weak w (Event.collect k) c f = refl
+other-after weak w (Event.buffer ks ws narrow small) c f = refl
+other-after weak w Event.flush c f = refl
 other-after weak w Event.step c f = other-step weak (stepDue w) _ c f
 other-after weak w Event.recover c f = refl
 other-after weak w Event.read c f = refl
@@ -134,6 +137,9 @@ commit-format k n e = let z : _≡_ {A = ℕ} 0 1 = cc in omega arith
 collect-format : (b n : ℕ) → collect b ≡ format n → ⊥
 collect-format b n e = let z : _≡_ {A = ℕ} 0 1 = cc in omega arith
 
+flush-format : (n : ℕ) → flush ≡ format n → ⊥
+flush-format n e = let z : _≡_ {A = ℕ} 0 1 = cc in omega arith
+
 format-same : (k n : ℕ) → format k ≡ format n → k ≡ n
 format-same k n e = cc
 
@@ -192,6 +198,10 @@ module _ (weak : Weak) (m : List ℕ) (s : Held) (size : sizeOk (length m) ≡ t
   unfolding collected moved
   collect-guard b moves w = page-guard weak s _ p G refl refl refl (collect-format b) w
 
+  flush-guard : (gs : List (List Entry)) → weak (p / 16) ≡ false → Guard weak (flushed s gs p)
+  unfolding flushed moved
+  flush-guard gs w = page-guard weak s _ p G refl refl refl idle-format w
+
   collect-careful : (b : ℕ) (l : List Place) → needsErase v s ≡ false → s .pending ≡ collect b → live (s .index) b ≡ l → Careful weak (collectStep v s b l)
   unfolding collectStep
   collect-careful b [] r e q = unfold Careful in erase-guard weak s b idle G (λ n e c h. absurd (idle-format n e))
@@ -223,34 +233,36 @@ module _ (weak : Weak) (m : List ℕ) (s : Held) (size : sizeOk (length m) ≡ t
       base-guard : ltb n (s .head .blocks) ≡ false → Guard weak (formatted s)
       base-guard l = unfold formatted in page-guard weak s _ 0 G refl refl refl idle-format (zero-strong l)
 
-  due-careful : (pend : Pending) → needsErase v s ≡ false → s .pending ≡ pend → Careful weak (due v s pend)
+  due-careful : (gs : List (List Entry)) (pend : Pending) → needsErase v s ≡ false → s .pending ≡ pend → Careful weak (due v s gs pend)
   unfolding due
-  due-careful idle r e = refused-careful weak 9
-  due-careful (append es ps) r e = unfold appendStep in programming-careful _ _ _ r (unfold programsDue in rw e) (append-guard es ps)
-  due-careful (commit k) r e = unfold commitStep in programming-careful _ _ _ r (unfold programsDue in rw e) (commit-guard k)
-  due-careful (collect b) r e = collect-careful b (live (s .index) b) r e refl
-  due-careful (format n) r e = format-careful n e
-  due-careful unnamed r e = refused-careful weak 7
+  due-careful gs idle r e = refused-careful weak 9
+  due-careful gs (append es ps) r e = unfold appendStep in programming-careful _ _ _ r (unfold programsDue in rw e) (append-guard es ps)
+  due-careful gs (commit k) r e = unfold commitStep in programming-careful _ _ _ r (unfold programsDue in rw e) (commit-guard k)
+  due-careful gs (collect b) r e = collect-careful b (live (s .index) b) r e refl
+  due-careful gs (format n) r e = format-careful n e
+  due-careful gs flush r e = unfold flushStep in programming-careful _ _ _ r (unfold programsDue in rw e) (flush-guard gs)
+  due-careful gs unnamed r e = refused-careful weak 7
 
   -- that step, or the erase before it
-  first-careful : Careful weak (erasedFirst v s (due v s (s .pending)))
-  first-careful =
-      first-cases (Careful weak) v s (due v s (s .pending))
-      (λ r. unfold Careful in erase-guard weak s (newHead v (s .head)) (s .pending) G (λ n e c h. inr (G .formats n e c h))) (λ r. due-careful (s .pending) r refl)
+  first-careful : (gs : List (List Entry)) → Careful weak (erasedFirst v s (due v s gs (s .pending)))
+  first-careful gs =
+      first-cases (Careful weak) v s (due v s gs (s .pending))
+      (λ r. unfold Careful in erase-guard weak s (newHead v (s .head)) (s .pending) G (λ n e c h. inr (G .formats n e c h))) (λ r. due-careful gs (s .pending) r refl)
 
-pub step-careful : (weak : Weak) (m : List ℕ) (s : Held) → Guard weak s → Careful weak (stepOf (length m) (views m) s)
+pub step-careful : (weak : Weak) (m : List ℕ) (s : Held) (bs : List ℕ) → Guard weak s → Careful weak (stepOf (length m) (views m) s bs)
 unfolding stepOf
-step-careful weak m s G =
-    checked-cases (Careful weak) Step.refused (need 1 (sizeOk (length m)) ∷ need 7 (fit (views m) s) ∷ need 9 (not (isIdle (s .pending))) ∷ []) (erasedFirst (views m) s (due (views m) s (s .pending))) (refused-careful weak)
-    (λ t. first-careful weak m s (unfold tests in every-at 0 _ t) (fits (views m) s (unfold tests in every-at 1 _ t)) G)
+step-careful weak m s bs G =
+    checked-cases (Careful weak) Step.refused (need 1 (sizeOk (length m)) ∷ need 7 (fitWith (views m) s bs) ∷ need 9 (not (isIdle (s .pending))) ∷ [])
+    (erasedFirst (views m) s (due (views m) s (bufferedIn bs) (s .pending))) (refused-careful weak)
+    (λ t. first-careful weak m s (unfold tests in every-at 0 _ t) (fits (views m) s (state-fit (views m) s bs (unfold tests in every-at 1 _ t))) G (bufferedIn bs))
 
 -- ---- any event
 
-stepped-kept : (weak : Weak) (m : List ℕ) (s : Held) (st : Step) → Guard weak s → Careful weak st → Kept (afterStep st false weak) (stepped (world m (some s)) st .after .state)
+stepped-kept : (weak : Weak) (m : List ℕ) (s : Held) (bs : List ℕ) (st : Step) → Guard weak s → Careful weak st → Kept (afterStep st false weak) (stepped (world m (some s) bs) st .after .state)
 unfolding stepped afterStep Careful Kept
-stepped-kept weak m s (Step.refused n) G C = G
-stepped-kept weak m s (Step.program p pg s′ f) G C = C .1
-stepped-kept weak m s (Step.erase b s′ f) G C = C
+stepped-kept weak m s bs (Step.refused n) G C = G
+stepped-kept weak m s bs (Step.program p pg s′ f) G C = C .1
+stepped-kept weak m s bs (Step.erase b s′ f) G C = C
 
 cut-kept : (weak : Weak) (w : World) (left : List ℕ) (st : Step) → Kept weak (cutShort w left st .after .state)
 unfolding cutShort Kept
@@ -258,36 +270,46 @@ cut-kept weak w left (Step.refused n) = tt
 cut-kept weak w left (Step.program p pg s f) = tt
 cut-kept weak w left (Step.erase b s f) = tt
 
-call-kept : (weak : Weak) (m : List ℕ) (s : Held) (t : Told) (cs : List Need) (pend : Pending) → Guard weak s → ((n : ℕ) → pend ≡ format n → ⊥)
-    → Kept weak (called (world m (some s)) t (checked Call.refused cs (Call.begun (starting s pend))) .after .state)
-call-kept weak m s t cs pend G n =
-    checked-cases (λ (c : Call). Kept weak (called (world m (some s)) t c .after .state)) Call.refused cs (Call.begun (starting s pend))
+call-kept : (weak : Weak) (m : List ℕ) (s : Held) (bs : List ℕ) (t : Told) (cs : List Need) (pend : Pending) → Guard weak s → ((n : ℕ) → pend ≡ format n → ⊥)
+    → Kept weak (called (world m (some s) bs) t (checked Call.refused cs (Call.begun (starting s pend))) .after .state)
+call-kept weak m s bs t cs pend G n =
+    checked-cases (λ (c : Call). Kept weak (called (world m (some s) bs) t c .after .state)) Call.refused cs (Call.begun (starting s pend))
     (λ k. unfold called Kept in G) (λ e. unfold called Kept in record { long = G .long; marks = G .marks; heads = G .heads; formats = λ k q. absurd (n k q) })
+
+buffer-kept : (weak : Weak) (m : List ℕ) (s : Held) (bs : List ℕ) (t : Told) (cs : List Need) (b : List ℕ) → Guard weak s
+    → Kept weak (filled (world m (some s) bs) t (checked Buffering.refused cs (Buffering.buffered b)) .after .state)
+buffer-kept weak m s bs t cs b G =
+    checked-cases (λ (c : Buffering). Kept weak (filled (world m (some s) bs) t c .after .state)) Buffering.refused cs (Buffering.buffered b)
+    (λ k. unfold filled Kept in G) (λ e. unfold filled Kept in G)
 
 recovered-guard : (weak : Weak) (v : List View) → Guard weak (recoveredState v)
 unfolding recoveredState
 recovered-guard weak v = record { long = none-length (length v / 16); marks = λ b h. true-false h (none-was (length v / 16) b); heads = λ h. absurd (omega arith); formats = λ n e. absurd (idle-format n e) }
 
-recover-kept : (weak : Weak) (m : List ℕ) (s : Option Held) → Kept weak s → Kept weak (recovered (world m s) (Recovery.recover (length m) (views m)) .after .state)
+recover-kept : (weak : Weak) (m : List ℕ) (s : Option Held) (bs : List ℕ) → Kept weak s → Kept weak (recovered (world m s bs) (Recovery.recover (length m) (views m)) .after .state)
 unfolding Recovery.recover
-recover-kept weak m s K =
-    checked-cases (λ (r : Recovery). Kept weak (recovered (world m s) r .after .state)) Recovery.refused _ _
+recover-kept weak m s bs K =
+    checked-cases (λ (r : Recovery). Kept weak (recovered (world m s bs) r .after .state)) Recovery.refused _ _
     (λ n. unfold recovered in K) (λ e. unfold recovered Kept in recovered-guard weak (views m))
 
-pub event-kept : (weak : Weak) (m : List ℕ) (s : Option Held) (e : Event (world m s)) → Kept weak s → Kept (weakAfter (world m s) e weak) (happen (world m s) e .after .state)
+pub event-kept : (weak : Weak) (m : List ℕ) (s : Option Held) (bs : List ℕ) (e : Event (world m s bs)) → Kept weak s → Kept (weakAfter (world m s bs) e weak) (happen (world m s bs) e .after .state)
 unfolding happen weakAfter withState stepDue
-event-kept weak m none (Event.append ks ws a b) K = K
-event-kept weak m (some s) (Event.append ks ws a b) K = unfold appendOf in call-kept weak m s (beganAppend (zip ks ws)) _ (append (zip ks ws) []) (unfold Kept in K) (append-format (zip ks ws) [])
-event-kept weak m none Event.commit K = K
-event-kept weak m (some s) Event.commit K = unfold commitOf in call-kept weak m s beganCommit _ (commit 0) (unfold Kept in K) (commit-format 0)
-event-kept weak m none (Event.collect b) K = K
-event-kept weak m (some s) (Event.collect b) K = unfold collectOf in call-kept weak m s beganCollect _ (collect b) (unfold Kept in K) (collect-format b)
-event-kept weak m none Event.step K = unfold stepped afterStep in K
-event-kept weak m (some s) Event.step K = stepped-kept weak m s (stepOf (length m) (views m) s) (unfold Kept in K) (step-careful weak m s (unfold Kept in K))
-event-kept weak m s Event.recover K = recover-kept weak m s K
-event-kept weak m s Event.read K = K
-event-kept weak m s Event.cut K = unfold Kept in tt
-event-kept weak m s (Event.cutInside left c) K = cut-kept _ (world m s) left (stepDue (world m s))
+event-kept weak m none bs (Event.append ks ws a b) K = K
+event-kept weak m (some s) bs (Event.append ks ws a b) K = unfold appendOf in call-kept weak m s bs (beganAppend (zip ks ws)) _ (append (zip ks ws) []) (unfold Kept in K) (append-format (zip ks ws) [])
+event-kept weak m none bs Event.commit K = K
+event-kept weak m (some s) bs Event.commit K = unfold commitOf in call-kept weak m s bs beganCommit _ (commit 0) (unfold Kept in K) (commit-format 0)
+event-kept weak m none bs (Event.collect b) K = K
+event-kept weak m (some s) bs (Event.collect b) K = unfold collectOf in call-kept weak m s bs beganCollect _ (collect b) (unfold Kept in K) (collect-format b)
+event-kept weak m none bs (Event.buffer ks ws a b) K = K
+event-kept weak m (some s) bs (Event.buffer ks ws a b) K = unfold bufferOf in buffer-kept weak m s bs (putIn (zip ks ws)) _ _ (unfold Kept in K)
+event-kept weak m none bs Event.flush K = K
+event-kept weak m (some s) bs Event.flush K = unfold flushOf in call-kept weak m s bs beganFlush _ flush (unfold Kept in K) flush-format
+event-kept weak m none bs Event.step K = unfold stepped afterStep in K
+event-kept weak m (some s) bs Event.step K = stepped-kept weak m s bs (stepOf (length m) (views m) s bs) (unfold Kept in K) (step-careful weak m s bs (unfold Kept in K))
+event-kept weak m s bs Event.recover K = recover-kept weak m s bs K
+event-kept weak m s bs Event.read K = K
+event-kept weak m s bs Event.cut K = unfold Kept in tt
+event-kept weak m s bs (Event.cutInside left c) K = cut-kept _ (world m s bs) left (stepDue (world m s bs))
 
 -- ---- along the list
 
@@ -305,18 +327,18 @@ begun-guard weak n s e =
 
 format-kept : (weak : Weak) (w : World) (F : Formatting w) → Kept (weakInFormat weak w F) (w .state)
 unfolding weakInFormat
-format-kept weak w (Formatting.begun m s b e) = unfold Kept in begun-guard weak (length m) s e
-format-kept weak w (Formatting.next v e F k) = event-kept (weakInFormat weak v F) (v .medium) (v .state) e (format-kept weak v F)
+format-kept weak w (Formatting.begun m s bs b e) = unfold Kept in begun-guard weak (length m) s e
+format-kept weak w (Formatting.next v e F k) = event-kept (weakInFormat weak v F) (v .medium) (v .state) (v .buffer) e (format-kept weak v F)
 
 pub list-kept : (weak : Weak) (w : World) (h : History) (R : Reached w h) → Kept (weakIn weak w h R) (w .state)
 unfolding weakIn
-list-kept weak w h (Reached.start v F e) = event-kept (weakInFormat weak v F) (v .medium) (v .state) Event.step (format-kept weak v F)
-list-kept weak w h (Reached.next v g e R) = event-kept (weakIn weak v g R) (v .medium) (v .state) e (list-kept weak v g R)
+list-kept weak w h (Reached.start v F e) = event-kept (weakInFormat weak v F) (v .medium) (v .state) (v .buffer) Event.step (format-kept weak v F)
+list-kept weak w h (Reached.next v g e R) = event-kept (weakIn weak v g R) (v .medium) (v .state) (v .buffer) e (list-kept weak v g R)
 
-programs-strong : (weak : Weak) (m : List ℕ) (s : Option Held) → Kept weak s → (p : ℕ) (pg : Page) (t : Held) (f : Bool) → stepDue (world m s) ≡ Step.program p pg t f → weak (p / 16) ≡ false
+programs-strong : (weak : Weak) (m : List ℕ) (s : Option Held) (bs : List ℕ) → Kept weak s → (p : ℕ) (pg : Page) (t : Held) (f : Bool) → stepDue (world m s bs) ≡ Step.program p pg t f → weak (p / 16) ≡ false
 unfolding stepDue withState
-programs-strong weak m none K p pg t f e = let z : _≡_ {A = ℕ} 0 1 = cc in absurd (omega arith)
-programs-strong weak m (some s) K p pg t f e = go (stepOf (length m) (views m) s) (step-careful weak m s (unfold Kept in K)) e
+programs-strong weak m none bs K p pg t f e = let z : _≡_ {A = ℕ} 0 1 = cc in absurd (omega arith)
+programs-strong weak m (some s) bs K p pg t f e = go (stepOf (length m) (views m) s bs) (step-careful weak m s bs (unfold Kept in K)) e
   where
     go : (st : Step) → Careful weak st → st ≡ Step.program p pg t f → weak (p / 16) ≡ false
     go st C q = let D : (weak (p / 16) ≡ false) × Guard weak t = unfold Careful in (rw q at C) in D .0
@@ -324,6 +346,6 @@ programs-strong weak m (some s) K p pg t f e = go (stepOf (length m) (views m) s
 pub never-weak : NeverWeak
 never-weak =
     record {
-      in-format = λ weak w F. programs-strong (weakInFormat weak w F) (w .medium) (w .state) (format-kept weak w F);
-      in-list = λ weak w h R. programs-strong (weakIn weak w h R) (w .medium) (w .state) (list-kept weak w h R);
+      in-format = λ weak w F. programs-strong (weakInFormat weak w F) (w .medium) (w .state) (w .buffer) (format-kept weak w F);
+      in-list = λ weak w h R. programs-strong (weakIn weak w h R) (w .medium) (w .state) (w .buffer) (list-kept weak w h R);
     }

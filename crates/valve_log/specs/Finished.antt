@@ -12,7 +12,7 @@ use Rattle.state.specs.State.{Held}
 use Rattle.calls.specs.Calls.{Call, formatOf}
 use Rattle.step.specs.Step.{Step}
 use Rattle.valve_log.specs.History.{start as noHistory}
-use Rattle.valve_log.specs.Reached.{World, world, stepDue, Event, happen, finishes, Reached}
+use Rattle.valve_log.specs.Reached.{World, world, fresh, lentAnew, stepDue, Event, happen, finishes, Reached}
 
 -- the world after n steps
 unfoldable pub stepsOn : ℕ → World → World
@@ -20,15 +20,15 @@ stepsOn zero w = w
 stepsOn (suc n) w = happen (stepsOn n w) Event.step .after
 
 -- Formatting of medium m: format is not refused, nor is any step; a step for each block does not finish it, the next one does; and the world
--- that it leaves is one that point 3 speaks of, with a medium as long as m.
+-- that it leaves is one that point 3 speaks of, with a medium as long as m. The steps are lent an empty buffer.
 pub record Finished (m : List ℕ) : Type 0 where
   pub state : Held
   pub begun : formatOf (length m) ≡ Call.begun state
-  pub accepted : (n k : ℕ) → n ≤ length m / 4096 → stepDue (stepsOn n (world m (some state))) ≡ Step.refused k → ⊥
-  pub before : (n : ℕ) → n < length m / 4096 → finishes (stepDue (stepsOn n (world m (some state)))) ≡ false
-  pub last : finishes (stepDue (stepsOn (length m / 4096) (world m (some state)))) ≡ true
-  pub reached : Reached (stepsOn (suc (length m / 4096)) (world m (some state))) noHistory
-  pub same-length : length (stepsOn (suc (length m / 4096)) (world m (some state)) .medium) ≡ length m
+  pub accepted : (n k : ℕ) → n ≤ length m / 4096 → stepDue (stepsOn n (world m (some state) fresh)) ≡ Step.refused k → ⊥
+  pub before : (n : ℕ) → n < length m / 4096 → finishes (stepDue (stepsOn n (world m (some state) fresh))) ≡ false
+  pub last : finishes (stepDue (stepsOn (length m / 4096) (world m (some state) fresh))) ≡ true
+  pub reached : Reached (lentAnew (stepsOn (suc (length m / 4096)) (world m (some state) fresh))) noHistory
+  pub same-length : length (stepsOn (suc (length m / 4096)) (world m (some state) fresh) .medium) ≡ length m
 
 unfoldable pub FormattingFinishes : Type 0
 FormattingFinishes = (m : List ℕ) → Bytes m → sizeOk (length m) ≡ true → Finished m

@@ -4,3 +4,7 @@ pub mod Steady
 pub mod Quiet
 pub mod Finished
 pub mod Weak
+pub mod Buffered
+pub mod Word
+pub mod Flushable
+pub mod Older

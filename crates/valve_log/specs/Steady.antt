@@ -1,5 +1,5 @@
--- What no call answers on a medium that such a list reaches, with the state last handed back: 1, 6, 7 and 16 are for media and states
--- that the journal's own writer does not produce.
+-- What no call answers on a medium that such a list reaches, with the state last handed back and the buffer last left: 1, 6, 7 and 16 are
+-- for media, states and buffers that the journal's own writer does not produce.
 use mathlib.Core.Path.{_≡_}
 use mathlib.Core.Bool.{Bool, true, not}
 use mathlib.Core.Option.{some}
@@ -11,8 +11,8 @@ use Rattle.lists.specs.Lists.{every}
 use Rattle.flash.specs.Medium.{views}
 use Rattle.state.specs.State.{Held}
 use Rattle.recovery.specs.Recovery.{Recovery, recover as recoverOf}
-use Rattle.readings.specs.Readings.{Opening, openingOf, Pick, pickOf, Survey, surveyOf, Supply, availableOf, Answer, readLog}
-use Rattle.calls.specs.Calls.{Call, appendOf, commitOf, collectOf, formatOf}
+use Rattle.readings.specs.Readings.{Opening, openingOf, wordNumber, Pick, pickOf, Survey, surveyOf, Supply, availableOf, Answer, readLog}
+use Rattle.calls.specs.Calls.{Call, Buffering, appendOf, commitOf, collectOf, bufferOf, flushOf, formatOf}
 use Rattle.step.specs.Step.{Step, stepOf}
 use Rattle.valve_log.specs.History.{History}
 use Rattle.valve_log.specs.Reached.{World, Reached}
@@ -21,19 +21,23 @@ use Rattle.valve_log.specs.Reached.{World, Reached}
 unfoldable pub expected : ℕ → Bool
 expected n = every (not (eqb n 1) ∷ not (eqb n 6) ∷ not (eqb n 7) ∷ not (eqb n 16) ∷ [])
 
--- each call that takes a state, with any other arguments, where it refuses; picker, survey and available pages never do
-pub record Answers (m : List ℕ) (s : Held) : Type 0 where
-  pub append : (ks ws : List ℕ) (n : ℕ) → appendOf (length m) (views m) s ks ws ≡ Call.refused n → expected n ≡ true
-  pub commit : (n : ℕ) → commitOf (length m) (views m) s ≡ Call.refused n → expected n ≡ true
-  pub collect : (b n : ℕ) → collectOf (length m) (views m) s b ≡ Call.refused n → expected n ≡ true
-  pub step : (n : ℕ) → stepOf (length m) (views m) s ≡ Step.refused n → expected n ≡ true
+-- each call that takes a state, with any other arguments, where it refuses (a word has the number 0 where it does not); picker, survey and
+-- available pages never do
+pub record Answers (m : List ℕ) (s : Held) (b : List ℕ) : Type 0 where
+  pub append : (ks ws : List ℕ) (n : ℕ) → appendOf (length m) (views m) s b ks ws ≡ Call.refused n → expected n ≡ true
+  pub commit : (n : ℕ) → commitOf (length m) (views m) s b ≡ Call.refused n → expected n ≡ true
+  pub collect : (block n : ℕ) → collectOf (length m) (views m) s b block ≡ Call.refused n → expected n ≡ true
+  pub buffer : (ks ws : List ℕ) (n : ℕ) → bufferOf (length m) (views m) s b ks ws ≡ Buffering.refused n → expected n ≡ true
+  pub flush : (n : ℕ) → flushOf (length m) (views m) s b ≡ Call.refused n → expected n ≡ true
+  pub step : (n : ℕ) → stepOf (length m) (views m) s b ≡ Step.refused n → expected n ≡ true
   pub opening : (valve n : ℕ) → openingOf (length m) (views m) s valve ≡ Opening.turnedBack n → expected n ≡ true
+  pub word : (valve : ℕ) → expected (wordNumber m (views m) s b valve) ≡ true
   pub pick : (n : ℕ) → pickOf (length m) (views m) s ≡ Pick.turnedBack n → ⊥
   pub survey : (n : ℕ) → surveyOf (length m) (views m) s ≡ Survey.turnedBack n → ⊥
   pub available : (n : ℕ) → availableOf (length m) (views m) s ≡ Supply.turnedBack n → ⊥
 
 unfoldable pub Steady : Type 0
-Steady = (w : World) (h : History) (s : Held) → Reached w h → w .state ≡ some s → Answers (w .medium) s
+Steady = (w : World) (h : History) (s : Held) → Reached w h → w .state ≡ some s → Answers (w .medium) s (w .buffer)
 
 -- The calls that take no state, also where a cut lost it: format and recovery never refuse, and the log, filed into any two lists, is refused
 -- by 17 alone. A page of the medium refuses nothing anywhere.

@@ -32,6 +32,8 @@ unfoldable pub weakAfter : (w : World) → Event w → Weak → Weak
 weakAfter w (Event.append ks ws narrow small) weak = weak
 weakAfter w Event.commit weak = weak
 weakAfter w (Event.collect b) weak = weak
+weakAfter w (Event.buffer ks ws narrow small) weak = weak
+weakAfter w Event.flush weak = weak
 weakAfter w Event.step weak = afterStep (stepDue w) false weak
 weakAfter w Event.recover weak = weak
 weakAfter w Event.read weak = weak
@@ -40,7 +42,7 @@ weakAfter w (Event.cutInside left allowed) weak = afterStep (stepDue w) true wea
 
 -- along formatting, of those that were weak where it began
 unfoldable pub weakInFormat : Weak → (w : World) → Formatting w → Weak
-weakInFormat weak w (Formatting.begun m s bytes e) = weak
+weakInFormat weak w (Formatting.begun m s b bytes e) = weak
 weakInFormat weak w (Formatting.next v e F k) = weakAfter v e (weakInFormat weak v F)
 
 -- and along the list that it starts

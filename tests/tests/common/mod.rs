@@ -13,15 +13,80 @@ pub fn blank(blocks: usize) -> Vec<u8> {
     vec![0xFF; blocks * BLOCK_BYTES]
 }
 
+/// An empty buffer.
+pub const EMPTY: [u8; PAGE_BYTES] = [0xFF; PAGE_BYTES];
+
 pub fn set_entry(valve: u16, word: u64) -> Entry {
     Entry { key: valve, word }
+}
+
+/// The keys and the words of entries.
+pub fn lists(entries: &[(u16, u64)]) -> (Vec<u16>, Vec<u64>) {
+    entries.iter().copied().unzip()
+}
+
+/// A buffer that holds these groups.
+pub fn holding(groups: &[&[(u16, u64)]]) -> [u8; PAGE_BYTES] {
+    let (mut buffer, mut held) = (EMPTY, 0);
+    for group in groups {
+        let group: Vec<Entry> = group.iter().map(|&(key, word)| Entry { key, word }).collect();
+        writer::gather(&mut buffer, held, &group);
+        held += group.len();
+    }
+    buffer
+}
+
+/// Puts a group into a buffer.
+pub fn gather(
+    medium: &[u8],
+    state: &State,
+    buffer: &mut [u8],
+    entries: &[(u16, u64)],
+) -> Result<(), Refused> {
+    let (keys, words) = lists(entries);
+    writer::buffer(medium, state, buffer, &keys, &words)
+}
+
+// The calls that begin an operation, and the step, with an empty buffer lent.
+
+pub fn begin_lists(
+    medium: &[u8],
+    state: &mut State,
+    keys: &[u16],
+    words: &[u64],
+) -> Result<(), Refused> {
+    writer::append(medium, state, &EMPTY, keys, words)
+}
+
+pub fn begin_append(
+    medium: &[u8],
+    state: &mut State,
+    entries: &[(u16, u64)],
+) -> Result<(), Refused> {
+    let (keys, words) = lists(entries);
+    begin_lists(medium, state, &keys, &words)
+}
+
+pub fn begin_commit(medium: &[u8], state: &mut State) -> Result<(), Refused> {
+    writer::commit(medium, state, &EMPTY)
+}
+
+pub fn begin_collect(medium: &[u8], state: &mut State, block: usize) -> Result<(), Refused> {
+    writer::collect(medium, state, &EMPTY, block)
+}
+
+pub fn one_step(medium: &mut [u8], state: &mut State) -> Result<Step, Refused> {
+    let mut buffer = EMPTY;
+    let step = writer::step(medium, state, &mut buffer);
+    assert_eq!(buffer, EMPTY);
+    step
 }
 
 /// Steps until the pending operation is finished; what each step told.
 pub fn finish(medium: &mut [u8], state: &mut State) -> Vec<Step> {
     let mut steps = Vec::new();
     loop {
-        let step = writer::step(medium, state).expect("a step");
+        let step = one_step(medium, state).expect("a step");
         steps.push(step);
         if step.finished {
             return steps;
@@ -46,18 +111,8 @@ pub fn append(medium: &mut [u8], state: &mut State, entries: &[(u16, u64)]) -> V
     finish(medium, state)
 }
 
-pub fn begin_append(
-    medium: &[u8],
-    state: &mut State,
-    entries: &[(u16, u64)],
-) -> Result<(), Refused> {
-    let keys: Vec<u16> = entries.iter().map(|entry| entry.0).collect();
-    let words: Vec<u64> = entries.iter().map(|entry| entry.1).collect();
-    writer::append(medium, state, &keys, &words)
-}
-
 pub fn commit(medium: &mut [u8], state: &mut State) -> Vec<Step> {
-    writer::commit(medium, state).expect("commit");
+    begin_commit(medium, state).expect("commit");
     finish(medium, state)
 }
 
@@ -81,6 +136,8 @@ pub fn happening(action: &Action, outcome: Outcome) -> String {
         Action::Append { .. } => "append",
         Action::Commit => "commit",
         Action::Collect { .. } => "collect",
+        Action::Buffer { .. } => "buffer",
+        Action::Flush => "flush",
         Action::Step => "step",
         Action::Cut => "cut between",
         Action::CutInside { .. } => "cut inside",
@@ -137,6 +194,7 @@ pub fn pending_name(state: Option<&State>) -> &'static str {
         Some(Pending::Commit { .. }) => "commit",
         Some(Pending::Collect { .. }) => "collection",
         Some(Pending::Format { .. }) => "formatting",
+        Some(Pending::Flush) => "flush",
     }
 }
 
@@ -151,10 +209,10 @@ pub fn circumstances(given: &Given, action: &Action, outcome: Outcome) -> Option
             let weak = given.weak[given.before_a_page(step.touched)?];
             Some(format!("erase before a page{}", if weak { ", the block being weak" } else { "" }))
         }
-        Outcome::Cut { struck: Some(struck), .. } => match given.before_a_page(struck) {
-            Some(_) => Some("cut inside the erase before a page".to_string()),
-            None => Some(format!("cut inside {pending}")),
-        },
+        Outcome::Cut { struck: Some(struck), complete } => Some(match given.before_a_page(struck) {
+            Some(_) => "cut inside the erase before a page".to_string(),
+            None => format!("cut inside {pending}{}", if complete { ", complete" } else { "" }),
+        }),
         _ => None,
     }
 }

@@ -6,10 +6,10 @@ use Rattle.trials.proofs.finish.Statement.{statement}
 use Rattle.trials.proofs.finish.Tie as tie
 
 abbrev Inv-loop : tie.InvT-loop
-Inv-loop m₀ most u₀ n₀ m u n = length m ≡ length m₀
+Inv-loop m₀ b₀ most u₀ n₀ m b u n = (length m ≡ length m₀) × (length b ≡ length b₀)
 
 abbrev μ-loop : tie.MeasureT-loop
-μ-loop m₀ most u₀ n₀ m u n = most - n
+μ-loop m₀ b₀ most u₀ n₀ m b u n = most - n
 
 loop-holds : tie.Need-loop-holds Inv-loop μ-loop
 loop-holds c = search needs
@@ -29,6 +29,9 @@ loop-again c = search needs
 same-length : tie.Need-same-length Inv-loop μ-loop
 same-length c = search needs
 
+same-length-2 : tie.Need-same-length-2 Inv-loop μ-loop
+same-length-2 c = search needs
+
 returns : tie.Need-returns Inv-loop μ-loop
 returns c = search needs
 
@@ -44,4 +47,5 @@ finish-spec =
     loop-less
     loop-again
     same-length
+    same-length-2
     returns)

@@ -1,21 +1,22 @@
+use mathlib.Core.Path.{_≡_}
 use Prim.Native.Nat.{_-_}
 use lib.ListN.{length}
 use borrow.Author.Needs.{needs}
 use Rattle.trials.proofs.Laws.{Playing, play-starts, play-goes-on, play-ends}
-use Rattle.trials.proofs.play.Statement.{statement}
-use Rattle.trials.proofs.play.Tie as tie
+use Rattle.trials.proofs.play_with.Statement.{statement}
+use Rattle.trials.proofs.play_with.Tie as tie
 
 abbrev Inv-loop : tie.InvT-loop
-Inv-loop m₀ calls t₀ i₀ m t i = Playing m₀ calls m (t .number) i
+Inv-loop m₀ b₀ calls t₀ i₀ m b t i = Playing m₀ calls m (t .number) i × (length b ≡ length b₀)
 
 abbrev μ-loop : tie.MeasureT-loop
-μ-loop m₀ calls t₀ i₀ m t i = length calls - i
+μ-loop m₀ b₀ calls t₀ i₀ m b t i = length calls - i
 
 nothing-requires : tie.Need-nothing-requires Inv-loop μ-loop
 nothing-requires c κs = search needs
 
 loop-holds : tie.Need-loop-holds Inv-loop μ-loop
-loop-holds c = search (play-starts, needs)
+loop-holds c = (search (play-starts, needs), search needs)
 
 end-requires : tie.Need-end-requires Inv-loop μ-loop
 end-requires c κs = search needs
@@ -39,16 +40,19 @@ loop-less : tie.Need-loop-less Inv-loop μ-loop
 loop-less c = search needs
 
 loop-again : tie.Need-loop-again Inv-loop μ-loop
-loop-again c = search (play-goes-on, needs)
+loop-again c = (search (play-goes-on, needs), search needs)
 
 same-length : tie.Need-same-length Inv-loop μ-loop
 same-length c = search needs
 
+same-length-2 : tie.Need-same-length-2 Inv-loop μ-loop
+same-length-2 c = search needs
+
 returns : tie.Need-returns Inv-loop μ-loop
 returns c = search (play-ends, needs)
 
-pub play-spec : {M : Type 1} → statement M
-play-spec =
+pub play-with-spec : {M : Type 1} → statement M
+play-with-spec =
     tie.close
     (tie.spec
     Inv-loop
@@ -64,4 +68,5 @@ play-spec =
     loop-less
     loop-again
     same-length
+    same-length-2
     returns)

@@ -1,0 +1,51 @@
+-- A reader by 01's page rules as they were, before there were pages of kind 4: "Older readers meet kind 4 and answer 2."
+use mathlib.Core.Path.{_≡_}
+use mathlib.Core.Bool.{Bool, true, cond, _&&_, _||_}
+use mathlib.Core.List.{List, [], _∷_}
+use Prim.Native.Nat.{ℕ}
+use lib.ListN.{length}
+use lib.Dec.{leb, ltb, eqb}
+use Rattle.lists.specs.Lists.{all, every}
+use Rattle.lists.specs.Needs.{Need, need, checked}
+use Rattle.lists.specs.Cells.{Entry}
+use Rattle.page.specs.Pages.{Page, View, whole}
+use Rattle.page.specs.Rules.{serialOk}
+use Rattle.flash.specs.Medium.{views, seen}
+use Rattle.blocks.specs.Blocks.{sizeOk}
+use Rattle.recovery.specs.Recovery.{Placed, wholes, Recovery, refused}
+
+-- "flags: 1 begins a group, 2 ends it, 3 both, 0 neither"; "Kind 3 always has flags 3". There are kinds 1 to 3.
+unfoldable pub olderCarry : ℕ → ℕ → Bool
+olderCarry kind flags = cond (eqb kind 3) (eqb flags 3) ((eqb kind 1 || eqb kind 2) && leb flags 3)
+
+-- "n is at least 1, except 0 in a base with flags 3. A page without the end flag has n = 24." 25 where the kind may not carry the flags.
+unfoldable pub olderLeast : ℕ → ℕ → ℕ
+olderLeast kind flags = cond (olderCarry kind flags) (cond (leb 2 flags) (cond (eqb kind 2 && eqb flags 3) 0 1) 24) 25
+
+-- "In kind 1, key = valve sets it; key = valve + 32768 removes it, with word 0. In kinds 2 and 3 keys are valves."
+unfoldable pub olderEntry : ℕ → Entry → Bool
+olderEntry kind e = ltb (e .key) 32768 || eqb kind 1 && eqb (e .val) 0
+
+-- and bytes 6-7 hold FFh
+unfoldable pub olderLawful : Page → Bool
+olderLawful pg =
+    every
+    (pg .tidy
+    ∷ eqb (pg .marks) 65535
+    ∷ leb (olderLeast (pg .kind) (pg .flags)) (length (pg .entries))
+    ∷ all (olderEntry (pg .kind)) (pg .entries)
+    ∷ serialOk (pg .serial)
+    ∷ [])
+
+unfoldable pub olderAll : List Placed → Bool
+olderAll ws = all (λ x. olderLawful (x .page)) ws
+
+-- recovery by these rules, with the conditions that come after 1 and 2, and what it gives where all hold
+unfoldable pub olderRecover : List Need → Recovery → ℕ → List View → Recovery
+olderRecover later answer n v = checked refused (need 1 (sizeOk n) ∷ need 2 (olderAll (wholes 0 v)) ∷ later) answer
+
+-- whatever these are, it answers 2 to a medium of allowed length with a whole page of kind 4
+unfoldable pub OlderAnswers : Type 0
+OlderAnswers =
+    (later : List Need) (answer : Recovery) (m : List ℕ) (p : ℕ) (pg : Page)
+    → sizeOk (length m) ≡ true → seen (views m) p ≡ whole pg → pg .kind ≡ 4 → olderRecover later answer (length m) (views m) ≡ refused 2
