@@ -14,6 +14,7 @@ static uint8_t medium[4 * 4096];
 static uint8_t buffer[VJ_BUFFER_LENGTH];
 static uint16_t keys[6144];
 static uint64_t words[6144];
+static uint32_t groups[6144];
 
 /* Ends the program where a call refuses. */
 static void expect(const char *call, unsigned number)
@@ -78,7 +79,7 @@ int main(void)
     look(state, 20);
     state = flush(state);
     look(state, 5);
-    VjCount log = vj_log(medium, sizeof medium, keys, 6144, words, 6144);
+    VjCount log = vj_log(medium, sizeof medium, keys, 6144, words, 6144, groups, 6144);
     expect("log", log.number);
     printf("log %zu\n", log.count);
     return 0;

@@ -90,9 +90,9 @@ fn main() {
     journal.look(20);
     journal.flush();
     journal.look(5);
-    let (mut keys, mut words) = (vec![0u16; 6144], vec![0u64; 6144]);
+    let (mut keys, mut words, mut groups) = (vec![0u16; 6144], vec![0u64; 6144], vec![0u32; 6144]);
     let m = &journal.medium;
-    let log = unsafe { vj_log(m.as_ptr(), m.len(), keys.as_mut_ptr(), keys.len(), words.as_mut_ptr(), words.len()) };
+    let log = unsafe { vj_log(m.as_ptr(), m.len(), keys.as_mut_ptr(), keys.len(), words.as_mut_ptr(), words.len(), groups.as_mut_ptr(), groups.len()) };
     expect("log", log.number);
     println!("log {}", log.count);
 }

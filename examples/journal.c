@@ -14,6 +14,7 @@ static uint8_t medium[4 * 4096];
 static uint8_t buffer[VJ_BUFFER_LENGTH]; /* the write buffer, which stays empty here: examples/buffer.c uses it */
 static uint16_t keys[6144];
 static uint64_t words[6144];
+static uint32_t groups[6144];
 
 /* Ends the program where a call refuses. */
 static void expect(const char *call, unsigned number)
@@ -44,14 +45,14 @@ static VjState morning(void)
 {
     VjRecovered found = vj_recover(medium, sizeof medium);
     expect("recover", found.number);
-    VjCount log = vj_log(medium, sizeof medium, keys, 6144, words, 6144);
+    VjCount log = vj_log(medium, sizeof medium, keys, 6144, words, 6144, groups, 6144);
     expect("log", log.number);
     printf("log %zu\n", log.count);
     for (size_t i = 0; i < log.count; i++)
         if (keys[i] < 32768)
-            printf("%u %" PRIu64 "\n", (unsigned)keys[i], words[i]);
+            printf("%" PRIu32 " %u %" PRIu64 "\n", groups[i], (unsigned)keys[i], words[i]);
         else
-            printf("%u -\n", (unsigned)keys[i] - 32768);
+            printf("%" PRIu32 " %u -\n", groups[i], (unsigned)keys[i] - 32768);
     printf("set %zu\n", found.state.index.count);
     for (size_t i = 0; i < found.state.index.count; i++) {
         VjWord opening = vj_opening(medium, sizeof medium, found.state, found.state.index.keys[i]);

@@ -47,12 +47,12 @@ fn append(m: &mut [u8], state: VjState, keys: &[u16], words: &[u64]) -> VjState 
 fn morning(m: &[u8]) -> VjState {
     let found = unsafe { vj_recover(m.as_ptr(), m.len()) };
     expect("recover", found.number);
-    let (mut keys, mut words) = (vec![0u16; 6144], vec![0u64; 6144]);
-    let log = unsafe { vj_log(m.as_ptr(), m.len(), keys.as_mut_ptr(), keys.len(), words.as_mut_ptr(), words.len()) };
+    let (mut keys, mut words, mut groups) = (vec![0u16; 6144], vec![0u64; 6144], vec![0u32; 6144]);
+    let log = unsafe { vj_log(m.as_ptr(), m.len(), keys.as_mut_ptr(), keys.len(), words.as_mut_ptr(), words.len(), groups.as_mut_ptr(), groups.len()) };
     expect("log", log.number);
     println!("log {}", log.count);
-    for (key, word) in keys.iter().zip(&words).take(log.count) {
-        if *key < 32768 { println!("{key} {word}") } else { println!("{} -", key - 32768) }
+    for ((key, word), group) in keys.iter().zip(&words).zip(&groups).take(log.count) {
+        if *key < 32768 { println!("{group} {key} {word}") } else { println!("{group} {} -", key - 32768) }
     }
     println!("set {}", found.state.index.count);
     for &valve in &found.state.index.keys[..found.state.index.count] {

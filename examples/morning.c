@@ -10,6 +10,7 @@
 static uint8_t medium[65536 + 1];
 static uint16_t keys[6144];
 static uint64_t words[6144];
+static uint32_t groups[6144];
 
 static int refused(unsigned number)
 {
@@ -22,7 +23,7 @@ int main(void)
     size_t length = fread(medium, 1, sizeof medium, stdin);
     if (length > 65536)
         return refused(1);
-    VjCount log = vj_log(medium, length, keys, 6144, words, 6144);
+    VjCount log = vj_log(medium, length, keys, 6144, words, 6144, groups, 6144);
     if (log.number != 0)
         return refused(log.number);
     VjRecovered found = vj_recover(medium, length);
@@ -31,9 +32,9 @@ int main(void)
     printf("log %zu\n", log.count);
     for (size_t i = 0; i < log.count; i++)
         if (keys[i] < 32768)
-            printf("%u %" PRIu64 "\n", (unsigned)keys[i], words[i]);
+            printf("%" PRIu32 " %u %" PRIu64 "\n", groups[i], (unsigned)keys[i], words[i]);
         else
-            printf("%u -\n", (unsigned)keys[i] - 32768);
+            printf("%" PRIu32 " %u -\n", groups[i], (unsigned)keys[i] - 32768);
     const VjCells *set = &found.state.index;
     printf("set %zu\n", set->count);
     for (size_t i = 0; i < set->count; i++) {

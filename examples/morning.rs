@@ -15,16 +15,16 @@ fn opening(m: &[u8], state: VjState, valve: u16) -> Result<u64, u8> {
     if opened.number == 0 { Ok(opened.word) } else { Err(opened.number) }
 }
 
-// The log's keys and words, and the state; or the number of the refusal.
-fn read(m: &[u8]) -> Result<(Vec<(u16, u64)>, VjState), u8> {
+// The log, for each change its group's number, key and word, and the state; or the number of the refusal.
+fn read(m: &[u8]) -> Result<(Vec<(u32, u16, u64)>, VjState), u8> {
     if m.len() > 65536 {
         return Err(1);
     }
-    let (mut keys, mut words) = (vec![0u16; 6144], vec![0u64; 6144]);
-    let log = unsafe { vj_log(m.as_ptr(), m.len(), keys.as_mut_ptr(), keys.len(), words.as_mut_ptr(), words.len()) };
+    let (mut keys, mut words, mut groups) = (vec![0u16; 6144], vec![0u64; 6144], vec![0u32; 6144]);
+    let log = unsafe { vj_log(m.as_ptr(), m.len(), keys.as_mut_ptr(), keys.len(), words.as_mut_ptr(), words.len(), groups.as_mut_ptr(), groups.len()) };
     let found = unsafe { vj_recover(m.as_ptr(), m.len()) };
     match (log.number, found.number) {
-        (0, 0) => Ok((keys.into_iter().zip(words).take(log.count).collect(), found.state)),
+        (0, 0) => Ok(((0..log.count).map(|i| (groups[i], keys[i], words[i])).collect(), found.state)),
         (0, number) | (number, _) => Err(number),
     }
 }
@@ -36,8 +36,8 @@ fn main() {
         Err(number) => println!("refused {number}"),
         Ok((log, state)) => {
             println!("log {}", log.len());
-            for (key, word) in log {
-                if key < 32768 { println!("{key} {word}") } else { println!("{} -", key - 32768) }
+            for (group, key, word) in log {
+                if key < 32768 { println!("{group} {key} {word}") } else { println!("{group} {} -", key - 32768) }
             }
             println!("set {}", state.index.count);
             for &valve in &state.index.keys[..state.index.count] {

@@ -167,9 +167,10 @@ typedef struct VjStepped {
 /* Recovers the state from the medium, which stays as it is. Refuses 1 to 6. */
 VjRecovered vj_recover(const uint8_t *medium, size_t medium_length);
 
-/* Reads the log into two lists: for each change in order the key and the word, as stored; a removal's key is 32768 + valve. Lists of 6144
- * places are long enough for every medium. Places past the log stay as they were, and on a refusal all do. Refuses 1 to 6 and 17. */
-VjCount vj_log(const uint8_t *medium, size_t medium_length, uint16_t *keys, size_t keys_length, uint64_t *words, size_t words_length);
+/* Reads the log into three lists: for each change in order the key and the word, as stored, and the number of its group, the first complete
+ * group in the log being 0; a removal's key is 32768 + valve. Lists of 6144 places are long enough for every medium. Places past the log stay
+ * as they were, and on a refusal all do. Refuses 1 to 6 and 17. */
+VjCount vj_log(const uint8_t *medium, size_t medium_length, uint16_t *keys, size_t keys_length, uint64_t *words, size_t words_length, uint32_t *groups, size_t groups_length);
 
 /* The part of the medium that is page p, counted from 0: 256 bytes from byte 256 x p on. Where the medium, of any length, lacks one of
  * these bytes, offset and length are 0. Never refuses. */

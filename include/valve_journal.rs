@@ -141,7 +141,7 @@ pub struct VjStepped {
 #[link(name = "journal_c", kind = "static")]
 extern "C" {
     pub fn vj_recover(medium: *const u8, medium_length: usize) -> VjRecovered;
-    pub fn vj_log(medium: *const u8, medium_length: usize, keys: *mut u16, keys_length: usize, words: *mut u64, words_length: usize) -> VjCount;
+    pub fn vj_log(medium: *const u8, medium_length: usize, keys: *mut u16, keys_length: usize, words: *mut u64, words_length: usize, groups: *mut u32, groups_length: usize) -> VjCount;
     pub fn vj_page(medium: *const u8, medium_length: usize, p: usize) -> VjPart;
     pub fn vj_opening(medium: *const u8, medium_length: usize, state: VjState, valve: u16) -> VjWord;
     pub fn vj_pick(medium: *const u8, medium_length: usize, state: VjState) -> VjPick;

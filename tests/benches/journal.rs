@@ -17,7 +17,7 @@ trait Calls {
     type State: Clone;
     fn of(state: &State) -> Self::State;
     fn recover(medium: &[u8]) -> Result<Self::State, Refused>;
-    fn log_into(medium: &[u8], keys: &mut [u16], words: &mut [u64]) -> Result<usize, Refused>;
+    fn log_into(m: &[u8], k: &mut [u16], w: &mut [u64], g: &mut [u32]) -> Result<usize, Refused>;
     fn append(m: &[u8], state: &mut Self::State, k: &[u16], w: &[u64]) -> Result<(), Refused>;
     fn commit(medium: &[u8], state: &mut Self::State) -> Result<(), Refused>;
     fn collect(medium: &[u8], state: &mut Self::State, block: usize) -> Result<(), Refused>;
@@ -58,8 +58,13 @@ macro_rules! calls {
             fn recover(medium: &[u8]) -> Result<$state, Refused> {
                 $reader::recover(medium)
             }
-            fn log_into(m: &[u8], keys: &mut [u16], words: &mut [u64]) -> Result<usize, Refused> {
-                $reader::log_into(m, keys, words)
+            fn log_into(
+                m: &[u8],
+                k: &mut [u16],
+                w: &mut [u64],
+                g: &mut [u32],
+            ) -> Result<usize, Refused> {
+                $reader::log_into(m, k, w, g)
             }
             fn append(m: &[u8], state: &mut $state, k: &[u16], w: &[u64]) -> Result<(), Refused> {
                 $writer::append(m, state, &EMPTY, k, w)
@@ -100,11 +105,20 @@ fn recovery<C: Calls>(medium: &mut [u8], _: C::State) {
     assert!(black_box(C::recover(black_box(medium))).is_ok());
 }
 
-/// A morning: recovery, the log into two lists, a commit to its end.
+/// The log into three lists.
+fn log<C: Calls>(medium: &mut [u8], _: C::State) {
+    read_log::<C>(medium);
+}
+
+fn read_log<C: Calls>(medium: &[u8]) {
+    let (mut keys, mut words, mut groups) = ([0; 6144], [0; 6144], [0; 6144]);
+    black_box(C::log_into(medium, &mut keys, &mut words, &mut groups).expect("the log"));
+}
+
+/// A morning: recovery, the log into three lists, a commit to its end.
 fn morning<C: Calls>(medium: &mut [u8], _: C::State) {
     let mut state = C::recover(medium).expect("recovery");
-    let (mut keys, mut words) = ([0; 6144], [0; 6144]);
-    black_box(C::log_into(medium, &mut keys, &mut words).expect("the log"));
+    read_log::<C>(medium);
     C::commit(medium, &mut state).expect("commit");
     C::finish_unbuffered(medium, &mut state);
 }
@@ -176,6 +190,14 @@ fn grown(groups: usize) -> (Vec<u8>, State) {
     (medium, state)
 }
 
+/// Single moves gathered and flushed after formatting, as many as pass.
+fn gathered_full() -> (Vec<u8>, State) {
+    let (mut medium, state) = formatted();
+    gathered::<Second>(&mut medium, state);
+    let state = reader::recover(&medium).expect("recovery");
+    (medium, state)
+}
+
 /// Block 0 written to its end and a commit behind it: block 0 is collectible,
 /// and all valves live in it.
 fn collectible() -> (Vec<u8>, State) {
@@ -229,6 +251,9 @@ fn micros(time: Duration) -> f64 {
 fn main() {
     compare("recovery, full", grown(1000), recovery::<Proved>, recovery::<Second>);
     compare("recovery, mostly clean", grown(8), recovery::<Proved>, recovery::<Second>);
+    compare("the log, full", grown(1000), log::<Proved>, log::<Second>);
+    let name = "the log, full of single moves gathered";
+    compare(name, gathered_full(), log::<Proved>, log::<Second>);
     compare("a morning", grown(100), morning::<Proved>, morning::<Second>);
     let (proved, second) = (appends::<Proved, 24>, appends::<Second, 24>);
     compare("groups of 24 until 13", formatted(), proved, second);

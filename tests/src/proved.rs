@@ -120,11 +120,18 @@ pub fn recover(medium: &[u8]) -> Result<VjState, Refused> {
     answer(r.number, r.state)
 }
 
-/// The log into two lent lists; its length is handed back.
-pub fn log_into(medium: &[u8], keys: &mut [u16], words: &mut [u64]) -> Result<usize, Refused> {
-    let (medium, length) = (medium.as_ptr(), medium.len());
-    let (key, word) = (keys.as_mut_ptr(), words.as_mut_ptr());
-    let r = unsafe { vj_log(medium, length, key, keys.len(), word, words.len()) };
+/// The log into three lent lists: keys, words and numbers of groups; its length
+/// is handed back.
+pub fn log_into(
+    medium: &[u8],
+    keys: &mut [u16],
+    words: &mut [u64],
+    groups: &mut [u32],
+) -> Result<usize, Refused> {
+    let (m, k, w, g) =
+        (medium.as_ptr(), keys.as_mut_ptr(), words.as_mut_ptr(), groups.as_mut_ptr());
+    let (ml, kl, wl, gl) = (medium.len(), keys.len(), words.len(), groups.len());
+    let r = unsafe { vj_log(m, ml, k, kl, w, wl, g, gl) };
     answer(r.number, r.count)
 }
 

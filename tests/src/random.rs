@@ -164,7 +164,7 @@ pub enum Reading {
     Survey,
     Available,
     /// The log into lists of so many places.
-    Log { keys: usize, words: usize },
+    Log { keys: usize, words: usize, groups: usize },
 }
 
 /// What came of an action.
@@ -347,8 +347,11 @@ impl Life {
         match random.below(9) {
             0 => Reading::Pick,
             1 => Reading::Survey,
-            2 => Reading::Log { keys: random.below(300), words: random.below(300) },
-            3 => Reading::Log { keys: 5000, words: 5000 },
+            2 => {
+                let mut length = || random.below(300);
+                Reading::Log { keys: length(), words: length(), groups: length() }
+            }
+            3 => Reading::Log { keys: 5000, words: 5000, groups: 5000 },
             4 => Reading::Available,
             5 => Reading::Open { valve: random.bits() as u16 },
             6 => Reading::Word { valve: random.bits() as u16 },
@@ -575,8 +578,9 @@ fn read(medium: &[u8], state: &State, buffer: &[u8], reading: Reading) -> Result
         Reading::Pick => reader::pick(medium, state).map(drop),
         Reading::Survey => reader::survey(medium, state).map(drop),
         Reading::Available => reader::count_available(medium, state).map(drop),
-        Reading::Log { keys, words } => {
-            reader::log_into(medium, &mut vec![0; keys], &mut vec![0; words]).map(drop)
+        Reading::Log { keys, words, groups } => {
+            let (mut keys, mut words) = (vec![0; keys], vec![0; words]);
+            reader::log_into(medium, &mut keys, &mut words, &mut vec![0; groups]).map(drop)
         }
     }
 }

@@ -94,9 +94,10 @@ fn a_flush_is_one_page_with_all_groups() {
     assert_eq!(replay.settings(), [set_entry(5, 3)]);
     assert_eq!(replay.state.index, state.index);
     assert_eq!(open(&medium, &state, 5), Ok(3));
-    let (mut keys, mut words) = ([0; 7], [0; 7]);
-    assert_eq!(log_into(&medium, &mut keys, &mut words), Ok(6));
+    let (mut keys, mut words, mut groups) = ([0; 7], [0; 7], [7; 7]);
+    assert_eq!(log_into(&medium, &mut keys, &mut words, &mut groups), Ok(6));
     assert_eq!(keys, [9, 5, 6, 5, 6 + REMOVAL, 9 + REMOVAL, 0]);
+    assert_eq!(groups, [0, 1, 1, 2, 3, 3, 7]);
 }
 
 /// As many pages as by appends, and sixteen times the moves.

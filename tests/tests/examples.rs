@@ -147,7 +147,7 @@ fn morning_prints() {
     let (mut medium, mut state) = formatted(4);
     append(&mut medium, &mut state, &[(5, 1000), (7, 20)]);
     append(&mut medium, &mut state, &[(5 + REMOVAL, 0)]);
-    assert_eq!(morning(&medium), "log 3\n5 1000\n7 20\n5 -\nset 1\n7 20\n");
+    assert_eq!(morning(&medium), "log 3\n0 5 1000\n0 7 20\n1 5 -\nset 1\n7 20\n");
     assert_eq!(morning(&blank(4)), "refused 4\n");
     assert_eq!(morning(&medium[..12288]), "refused 1\n");
 }

@@ -3,9 +3,10 @@
 
 mod common;
 
-use common::{append, commit, formatted};
+use common::{append, commit, formatted, holding};
 use journal_tests::random::{self, Random};
 use journal_tests::reader::{self, REMOVAL};
+use journal_tests::writer;
 use std::collections::BTreeMap;
 use std::io::{ErrorKind, Write};
 use std::process::{Command, Stdio};
@@ -26,16 +27,25 @@ fn printed(medium: &[u8]) -> String {
     String::from_utf8(output.stdout).expect("text")
 }
 
-/// Both print the same; how often each line was printed is added up.
+/// Both print the same; how often each line was printed is added up, the group
+/// of a change apart from the rest of its line.
 fn same(medium: &[u8], lines: &mut BTreeMap<String, usize>) {
     let text = printed(medium);
     assert_eq!(text, reader::morning(medium));
+    let mut count = |line: String| *lines.entry(line).or_insert(0) += 1;
     for line in text.lines() {
-        *lines.entry(line.to_string()).or_insert(0) += 1;
+        match line.split(' ').collect::<Vec<_>>()[..] {
+            [group, valve, word] => {
+                count(format!("group {group}"));
+                count(format!("{valve} {word}"));
+            }
+            _ => count(line.to_string()),
+        }
     }
 }
 
-/// A medium whose groups set and remove the first and the last valves.
+/// A medium whose groups set and remove the first and the last valves; some
+/// stand together on a page.
 fn at_the_ends(random: &mut Random) -> Vec<u8> {
     let (mut medium, mut state) = formatted(random.from_to(4, 16));
     for _ in 0..random.below(40) {
@@ -47,8 +57,14 @@ fn at_the_ends(random: &mut Random) -> Vec<u8> {
                 (valve, random.word())
             }
         };
-        let group: Vec<(u16, u64)> = (0..5).map(|_| entry()).collect();
-        append(&mut medium, &mut state, &group[random.below(5)..]);
+        let group: Vec<(u16, u64)> = (0..15).map(|_| entry()).collect();
+        if random.one_in(2) {
+            append(&mut medium, &mut state, &group[random.from_to(10, 14)..]);
+        } else {
+            let mut buffer = holding(&group.chunks(random.from_to(1, 5)).collect::<Vec<_>>());
+            writer::flush(&medium, &mut state, &buffer).expect("flush");
+            writer::step(&mut medium, &mut state, &mut buffer).expect("a step");
+        }
     }
     if random.one_in(4) {
         commit(&mut medium, &mut state);
@@ -67,7 +83,8 @@ fn prints_what_the_second_implementation_prints() {
         same(&at_the_ends(&mut random), &mut lines);
     }
     let often = ["0 -", "32767 -", "log 0", "set 0", "refused 1", "refused 2", "refused 4"];
-    for line in often {
+    let groups = ["group 0", "group 9", "group 10", "group 99", "group 100"];
+    for line in often.into_iter().chain(groups) {
         let times = lines.get(line).copied().unwrap_or(0);
         assert!(times >= 5, "{times} times: {line}");
     }

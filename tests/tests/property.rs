@@ -1,5 +1,5 @@
-//! Point 3: after every event recovery is accepted, and its log and settings
-//! are those of the plain history.
+//! Point 3: after every event recovery is accepted, and its log with the
+//! groups' numbers and its settings are those of the plain history.
 
 mod common;
 
@@ -15,6 +15,7 @@ fn check(life: &Life) {
     let Some(history) = &life.history else { return };
     let replay = replay(&life.medium).expect("recovery is accepted");
     assert_eq!(replay.log(), history.log());
+    assert!(replay.changes().eq(numbered(history.log())), "the groups' numbers");
     assert_eq!(replay.settings(), history.settings());
     if let Some(state) = &life.state {
         check_state_kept(&life.medium, state, &replay.state);

@@ -1,6 +1,9 @@
 //! The proved library against the second implementation, on many media: the
 //! refusal, the state and the log of each, and the readings that take a state.
 
+mod common;
+
+use common::{read_out, refused, LogLists, ReadOut};
 use journal_tests::proved::{self, count_available, open, pick, survey, VjState};
 use journal_tests::random::{self, Random};
 use journal_tests::reader::{self, Entry, Refused, State};
@@ -11,33 +14,23 @@ fn recover(medium: &[u8]) -> Result<State, Refused> {
     proved::recover(medium).map(|state| state.meaning().expect("a state that means something"))
 }
 
-/// What a call that fills two lists answers, and the lists.
-type Log = (Result<usize, Refused>, Vec<u16>, Vec<u64>);
-
-/// The proved log into lists of these lengths, which hold 9 before.
-fn log(medium: &[u8], keys: usize, words: usize) -> Log {
-    let (mut keys, mut words) = (vec![9u16; keys], vec![9u64; words]);
-    let answer = proved::log_into(medium, &mut keys, &mut words);
-    (answer, keys, words)
-}
-
-/// The other implementation's, likewise.
-fn expected_log(medium: &[u8], keys: usize, words: usize) -> Log {
-    let (mut keys, mut words) = (vec![9u16; keys], vec![9u64; words]);
-    let answer = reader::log_into(medium, &mut keys, &mut words);
-    (answer, keys, words)
+/// The proved log into lists of these lengths, and the other one.
+fn logs(medium: &[u8], lengths: [usize; 3]) -> [ReadOut; 2] {
+    [proved::log_into, reader::log_into].map(|log_into| read_out(log_into, medium, lengths))
 }
 
 /// Both say the same of a medium; the refusal, or 0.
 fn agree(random: &mut Random, medium: &[u8]) -> u8 {
     let expected = reader::recover(medium);
     assert_eq!(recover(medium), expected);
-    let changes = reader::log_into(medium, &mut [0; 6144], &mut [0; 6144]).unwrap_or(0);
-    let short = random.below(changes + 1);
-    for (keys, words) in
-        [(6144, 6144), (changes, changes), (short, 6144), (6144, short), (changes + 3, changes + 1)]
-    {
-        assert_eq!(log(medium, keys, words), expected_log(medium, keys, words));
+    let changes = reader::replay(medium).map_or(0, |replay| replay.log_length());
+    // One, two or all three of the lists are too short, if the log is not empty.
+    let (which, short) = (random.from_to(1, 7), random.below(changes.max(1)));
+    let too_short = [1, 2, 4].map(|list| if which & list != 0 { short } else { 6144 });
+    let longer = [changes + 3, changes + 1, changes + 2];
+    for lengths in [[6144; 3], [changes; 3], longer, too_short] {
+        let [proved, second] = logs(medium, lengths);
+        assert!(proved == second, "{lengths:?}: {:?}, not {:?}", proved.0, second.0);
     }
     expected.map_or_else(|refused| refused.0, |_| 0)
 }
@@ -212,8 +205,13 @@ fn small_examples() {
     assert_eq!(recover(&laid(&[page(2, 3, 1, &[(5, 0)])])), Err(Refused(6)));
 
     let morning = laid(&[base, page(1, 3, 2, &[(5, 1000), (7, 20)]), page(1, 3, 3, &[(32773, 0)])]);
-    assert_eq!(log(&morning, 2, 3), (Err(Refused(17)), vec![9; 2], vec![9; 3]));
-    assert_eq!(log(&morning, 4, 3), (Ok(3), vec![5, 7, 32773, 9], vec![1000, 20, 0]));
+    for lengths in [[2, 3, 3], [3, 2, 3], [3, 3, 2]] {
+        let [log, _] = logs(&morning, lengths);
+        assert_eq!(log, (refused(17), LogLists::new(lengths)));
+    }
+    let [(answer, lists), _] = logs(&morning, [3, 3, 3]);
+    assert_eq!((answer, lists.keys), (Ok(3), vec![5, 7, 32773]));
+    assert_eq!((lists.words, lists.groups), (vec![1000, 20, 0], vec![0, 0, 1]));
     let state = proved::recover(&morning).expect("a recovery");
     assert_eq!(open(&morning, &state, 7), Ok(20));
     assert_eq!(open(&morning, &state, 5), Err(Refused(18)));

@@ -132,14 +132,16 @@ fn log_into_lists() {
     let (mut medium, mut state) = formatted(4);
     append(&mut medium, &mut state, &[(5, 1000), (7, 20)]);
     append(&mut medium, &mut state, &[(5 + REMOVAL, 0)]);
-    let (mut keys, mut words) = ([1; 5], [1; 4]);
-    assert_eq!(log_into(&medium, &mut keys[..2], &mut words), refused(17));
-    assert_eq!(log_into(&medium, &mut keys, &mut words[..2]), refused(17));
-    assert_eq!((keys, words), ([1; 5], [1; 4]));
-    assert_eq!(log_into(&medium, &mut keys, &mut words), Ok(3));
-    assert_eq!(keys, [5, 7, 5 + REMOVAL, 1, 1]);
-    assert_eq!(words, [1000, 20, 0, 1]);
-    assert_eq!(log_into(&blank(4), &mut [], &mut []), refused(4));
+    let (mut keys, mut words, mut groups) = ([9; 5], [9; 4], [9; 6]);
+    assert_eq!(log_into(&medium, &mut keys[..2], &mut words, &mut groups), refused(17));
+    assert_eq!(log_into(&medium, &mut keys, &mut words[..2], &mut groups), refused(17));
+    assert_eq!(log_into(&medium, &mut keys, &mut words, &mut groups[..2]), refused(17));
+    assert_eq!((keys, words, groups), ([9; 5], [9; 4], [9; 6]));
+    assert_eq!(log_into(&medium, &mut keys, &mut words, &mut groups), Ok(3));
+    assert_eq!(keys, [5, 7, 5 + REMOVAL, 9, 9]);
+    assert_eq!(words, [1000, 20, 0, 9]);
+    assert_eq!(groups, [0, 0, 1, 9, 9, 9]);
+    assert_eq!(log_into(&blank(4), &mut [], &mut [], &mut []), refused(4));
 }
 
 // ---------------------------------------------------------------------------
@@ -471,7 +473,7 @@ fn one_is_first_everywhere() {
     assert_eq!(open(&short, &state, 5), refused(1));
     assert_eq!(pick(&short, &state), refused(1));
     assert_eq!(survey(&short, &state), refused(1));
-    assert_eq!(log_into(&short, &mut [], &mut []), refused(1));
+    assert_eq!(log_into(&short, &mut [], &mut [], &mut []), refused(1));
 }
 
 #[test]

@@ -12,7 +12,8 @@
 mod common;
 
 use common::{
-    blank, circumstances, happening, lists, pending_name, refused, valves, Given, EMPTY,
+    blank, circumstances, expected_read_out, happening, lists, pending_name, read_out, refused,
+    valves, Given, EMPTY,
 };
 use journal_tests::proved::{self, VjCells, VjState};
 use journal_tests::random::{self, cut_step, Action, Life, Outcome, Random, Reading};
@@ -95,11 +96,12 @@ impl Journal {
         proved::count_available(&self.medium, &self.state)
     }
 
-    /// The log, keys and words as stored.
-    fn log(&self) -> Vec<(u16, u64)> {
-        let (mut keys, mut words) = (vec![0; 6144], vec![0; 6144]);
-        let changes = proved::log_into(&self.medium, &mut keys, &mut words).expect("the log");
-        keys.into_iter().zip(words).take(changes).collect()
+    /// The log: each change's group number, its key and its word as stored.
+    fn log(&self) -> Vec<(u32, u16, u64)> {
+        let (answer, lists) = read_out(proved::log_into, &self.medium, [6144; 3]);
+        let changes = lists.groups.into_iter().zip(lists.keys).zip(lists.words);
+        let changes = changes.map(|((group, key), word)| (group, key, word));
+        changes.take(answer.expect("the log")).collect()
     }
 }
 
@@ -114,7 +116,8 @@ fn formatting_leaves_63_pages_and_47_groups_pass() {
     }
     assert_eq!(journal.available(), Ok(16));
     assert_eq!(journal.begin_append(&[(5, 47)]), refused(13));
-    assert_eq!(journal.log().len(), 47);
+    let expected: Vec<_> = (0..47).map(|group| (group, 5, u64::from(group))).collect();
+    assert_eq!(journal.log(), expected);
 }
 
 #[test]
@@ -182,7 +185,7 @@ fn thirty_entries_cut_after_their_first_page() {
     // Block 1 is erased before serial 3.
     assert_eq!(journal.append(&[(5, 1)]), [Touched::Block(1), Touched::Page(16)]);
     assert_eq!(journal.medium[16 * 256 + 8], 3);
-    assert_eq!(journal.log(), [(5, 1)]);
+    assert_eq!(journal.log(), [(0, 5, 1)]);
 }
 
 #[test]
@@ -204,7 +207,7 @@ fn single_moves_are_gathered_and_flushed() {
     assert_eq!(journal.gather(&[(6, 1)]), refused(8));
     assert_eq!(journal.finish(), [Touched::Page(1)]);
     assert_eq!(journal.buffer, EMPTY);
-    assert_eq!(journal.log(), [(5, 1000), (7, 20), (32773, 0)]);
+    assert_eq!(journal.log(), [(0, 5, 1000), (0, 7, 20), (1, 32773, 0)]);
     assert_eq!(journal.word_at(7), Ok(WordAt::Medium(256 + 72)));
     journal.buffer[255] = 0;
     assert_eq!(journal.word_at(7), refused(7));
@@ -399,15 +402,11 @@ impl Twins {
                 proved::count_available(medium, proved),
                 reader::count_available(medium, second),
             ),
-            Reading::Log { keys, words } => {
-                let (mut lists, mut others) =
-                    ((vec![9; keys], vec![9; words]), (vec![9; keys], vec![9; words]));
-                let answer = same(
-                    proved::log_into(medium, &mut lists.0, &mut lists.1),
-                    reader::log_into(medium, &mut others.0, &mut others.1),
-                );
+            Reading::Log { keys, words, groups } => {
+                let (answer, lists) = read_out(proved::log_into, medium, [keys, words, groups]);
+                let (other, others) = read_out(reader::log_into, medium, [keys, words, groups]);
                 assert_eq!(lists, others);
-                answer
+                same(answer, other)
             }
         };
         answer.map_or_else(|Refused(number)| Outcome::Refused(number), |()| Outcome::Accepted)
@@ -443,20 +442,20 @@ impl Twins {
         assert_eq!(replay.log(), history.log());
         let settings = history.settings();
         assert_eq!(replay.settings(), settings);
-        self.check_log(&history.log().concat());
+        self.check_log(random, history.log());
         for _ in 0..settings.len().min(3) {
             let Entry { key, word } = random.one_of(&settings);
             assert_eq!(proved::open(&self.medium, &recovered, key), Ok(word));
         }
     }
 
-    /// The proved log is this one.
-    fn check_log(&self, log: &[Entry]) {
-        let (mut keys, mut words) = ([9; 6144], [9; 6144]);
-        assert_eq!(proved::log_into(&self.medium, &mut keys, &mut words), Ok(log.len()));
-        let changes = keys.iter().zip(&words).map(|(&key, &word)| Entry { key, word });
-        assert!(changes.take(log.len()).eq(log.iter().copied()), "the log");
-        assert!(keys[log.len()..].iter().all(|&key| key == 9), "places past the log");
+    /// The proved log is this one group by group, each change with its group's
+    /// number; places past the log stay.
+    fn check_log(&self, random: &mut Random, log: &[Vec<Entry>]) {
+        let length: usize = log.iter().map(Vec::len).sum();
+        let lengths = [length; 3].map(|length| length + random.one_of(&[0, 1, 30]));
+        let read = read_out(proved::log_into, &self.medium, lengths);
+        assert!(read == expected_read_out(log, lengths), "the log of {} groups", log.len());
     }
 }
 

@@ -14,7 +14,7 @@ use Rattle.lists.specs.Lists.{all, isSome, valueOr}
 use Rattle.lists.specs.Needs.{Need, checked}
 use Rattle.lists.specs.Cells.{cell, Entry}
 use Rattle.lists.proofs.Laws.{by-cases, all-head, all-tail}
-use Rattle.page.specs.Pages.{View, changesOf}
+use Rattle.page.specs.Pages.{View}
 use Rattle.flash.specs.Medium.{views}
 use Rattle.index.specs.Index.{lookup}
 use Rattle.blocks.specs.Blocks.{sizeOk}
@@ -350,9 +350,9 @@ module _ (m : List ℕ) (log : List (List Entry)) (s : Held) (a : recoverOf (len
   found-state = let y = rw (eq-eqb (r .number) 0 found-number) at says in cc
 
 module _ (w : World) (h : History) (R : reached.Reached w h) (S : Shows (w .medium) h) where
-  log-shown : (ks ws : List ℕ) → readLog (length (w .medium)) (views (w .medium)) ks ws ≡ filed ks ws (changesOf (h .log))
+  log-shown : (ks ws ns : List ℕ) → readLog (length (w .medium)) (views (w .medium)) ks ws ns ≡ filed ks ws ns (h .log)
   unfolding readLog readInto
-  log-shown ks ws = ap (readInto ks ws) (S .accepts) ∙ ap (λ (l : List (List Entry)). filed ks ws (changesOf l)) (S .same-log)
+  log-shown ks ws ns = ap (readInto ks ws ns) (S .accepts) ∙ ap (filed ks ws ns) (S .same-log)
 
   -- the list with this recovery is one more
   after : happen w Event.recover .after ≡ world (w .medium) (some (S .state)) fresh
@@ -374,7 +374,7 @@ module _ (w : World) (h : History) (R : reached.Reached w h) (S : Shows (w .medi
   handed =
       record {
         accepted = found-number (w .medium) (S .log) (S .state) (S .accepts);
-        log = λ ks ws ks′ ws′ a p. p ∙ log-shown ks ws;
+        log = λ ks ws ns ks′ ws′ ns′ a p. p ∙ log-shown ks ws ns;
         settings = λ r p. subst (λ l. Words (views (w .medium)) l (h .settings)) (sym (ap (λ (x : Held). x .index) (state-is r p))) (S .same-settings);
         opening = λ r valve a p q. q ∙ ap (λ (x : Held). openingOf (length (w .medium)) (views (w .medium)) x valve) (state-is r p) ∙ valve-shown valve;
       }

@@ -97,7 +97,7 @@ fn damage() {
 fn short_lists() {
     let mut m = [255u8; 16384];
     trials::play(&mut m, &[FORMATTED, APPENDED, 3, 5, 7, 5, 1000, 20, 30]);
-    let r = filing::log(&m, &mut [0u16; 2], &mut [0u64; 2]);
+    let r = filing::log(&m, &mut [0u16; 3], &mut [0u64; 3], &mut [0u32; 2]);
     show::answer(b"17 3 changes, 2 places: ", r.number);
 }
 

@@ -51,8 +51,16 @@ fn no_words() -> [u64; 6144]
     [0; 6144]
 }
 
-// One change: a valve and its word, or `-` where it was removed.
-fn change(key: u16, word: u64) {
+fn no_groups() -> [u32; 6144]
+    ensures { λ r. ⌜ length r ≡ 6144 ⌝ }
+{
+    [0; 6144]
+}
+
+// One change: the number of its group, then a valve and its word, or `-` where it was removed.
+fn change(group: u32, key: u16, word: u64) {
+    number(group as u64);
+    text(b" ");
     if 32768 <= key {
         number((key - 32768) as u64);
         text(b" -\n");
@@ -63,13 +71,15 @@ fn change(key: u16, word: u64) {
 }
 
 // The first n changes.
-fn changes(keys: &[u16], words: &[u64], n: usize) {
+fn changes(keys: &[u16], words: &[u64], groups: &[u32], n: usize) {
     line(b"log ", n as u64);
     let mut i: usize = 0;
     while i < n {
         if i < keys.len() {
             if i < words.len() {
-                change(keys[i], words[i]);
+                if i < groups.len() {
+                    change(groups[i], keys[i], words[i]);
+                }
             }
         }
         i += 1;
@@ -114,11 +124,12 @@ pub fn medium(m: &[u8]) {
     }
     let mut keys = no_keys();
     let mut words = no_words();
-    let logged = filing::log(m, &mut keys, &mut words);
+    let mut groups = no_groups();
+    let logged = filing::log(m, &mut keys, &mut words, &mut groups);
     if logged.number != 0 {
         refused(logged.number);
         return;
     }
-    changes(&keys, &words, logged.count);
+    changes(&keys, &words, &groups, logged.count);
     settings(m, r.state.index);
 }

@@ -39,12 +39,12 @@ pub record Answers (m : List ℕ) (s : Held) (b : List ℕ) : Type 0 where
 unfoldable pub Steady : Type 0
 Steady = (w : World) (h : History) (s : Held) → Reached w h → w .state ≡ some s → Answers (w .medium) s (w .buffer)
 
--- The calls that take no state, also where a cut lost it: format and recovery never refuse, and the log, filed into any two lists, is refused
+-- The calls that take no state, also where a cut lost it: format and recovery never refuse, and the log, filed into any three lists, is refused
 -- by 17 alone. A page of the medium refuses nothing anywhere.
 pub record AnswersWithoutState (m : List ℕ) : Type 0 where
   pub format : (n : ℕ) → formatOf (length m) ≡ Call.refused n → ⊥
   pub recovery : (n : ℕ) → recoverOf (length m) (views m) ≡ Recovery.refused n → ⊥
-  pub log : (ks ws : List ℕ) (n : ℕ) → readLog (length m) (views m) ks ws .answer ≡ Answer.turnedBack n → n ≡ 17
+  pub log : (ks ws ns : List ℕ) (n : ℕ) → readLog (length m) (views m) ks ws ns .answer ≡ Answer.turnedBack n → n ≡ 17
 
 unfoldable pub SteadyWithoutState : Type 0
 SteadyWithoutState = (w : World) (h : History) → Reached w h → AnswersWithoutState (w .medium)

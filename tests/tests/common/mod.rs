@@ -25,6 +25,58 @@ pub fn lists(entries: &[(u16, u64)]) -> (Vec<u16>, Vec<u64>) {
     entries.iter().copied().unzip()
 }
 
+/// The changes of a log given group by group, each with its group's number.
+pub fn numbered(log: &[Vec<Entry>]) -> impl Iterator<Item = Change> + '_ {
+    let groups = (0..).zip(log);
+    groups.flat_map(|(group, entries)| entries.iter().map(move |&entry| Change { group, entry }))
+}
+
+/// The log read-out of one implementation.
+pub type LogInto = fn(&[u8], &mut [u16], &mut [u64], &mut [u32]) -> Result<usize, Refused>;
+
+/// What the log read-out answers, and the lists lent to it after that.
+pub type ReadOut = (Result<usize, Refused>, LogLists);
+
+/// Three lists to lend to the log read-out.
+#[derive(Clone, PartialEq, Eq, Debug)]
+pub struct LogLists {
+    pub keys: Vec<u16>,
+    pub words: Vec<u64>,
+    pub groups: Vec<u32>,
+}
+
+impl LogLists {
+    /// Lists of these lengths, filled with what hardly stands in a log.
+    pub fn new([keys, words, groups]: [usize; 3]) -> LogLists {
+        LogLists {
+            keys: vec![0xA5A5; keys],
+            words: vec![0xA5A5_A5A5_A5A5_A5A5; words],
+            groups: vec![0xA5A5_A5A5; groups],
+        }
+    }
+}
+
+/// The log of a medium read into lists of these lengths.
+pub fn read_out(log_into: LogInto, medium: &[u8], lengths: [usize; 3]) -> ReadOut {
+    let mut lists = LogLists::new(lengths);
+    let answer = log_into(medium, &mut lists.keys, &mut lists.words, &mut lists.groups);
+    (answer, lists)
+}
+
+/// What the read-out of this log must be: 17 where one of the lists is too
+/// short; only the places of the log are written to, and on a refusal none.
+pub fn expected_read_out(log: &[Vec<Entry>], lengths: [usize; 3]) -> ReadOut {
+    let mut lists = LogLists::new(lengths);
+    let length = log.iter().map(Vec::len).sum();
+    if lengths.iter().any(|&places| places < length) {
+        return (refused(17), lists);
+    }
+    for (at, Change { group, entry }) in numbered(log).enumerate() {
+        (lists.keys[at], lists.words[at], lists.groups[at]) = (entry.key, entry.word, group);
+    }
+    (Ok(length), lists)
+}
+
 /// A buffer that holds these groups.
 pub fn holding(groups: &[&[(u16, u64)]]) -> [u8; PAGE_BYTES] {
     let (mut buffer, mut held) = (EMPTY, 0);

@@ -4,10 +4,10 @@ use Rattle.show.proofs.changes.Statement.{statement}
 use Rattle.show.proofs.changes.Tie as tie
 
 abbrev Inv-loop : tie.InvT-loop
-Inv-loop keys words n i₀ i = i ≤ n
+Inv-loop keys words groups n i₀ i = i ≤ n
 
 abbrev μ-loop : tie.MeasureT-loop
-μ-loop keys words n i₀ i = n - i
+μ-loop keys words groups n i₀ i = n - i
 
 slice-aggregate-line : tie.Need-slice-aggregate-line Inv-loop μ-loop
 slice-aggregate-line c = search needs
@@ -29,6 +29,12 @@ mul-change-2 c = search needs
 
 shared-slice-read-change-2 : tie.Need-shared-slice-read-change-2 Inv-loop μ-loop
 shared-slice-read-change-2 c = search needs
+
+mul-change-3 : tie.Need-mul-change-3 Inv-loop μ-loop
+mul-change-3 c = search needs
+
+shared-slice-read-change-3 : tie.Need-shared-slice-read-change-3 Inv-loop μ-loop
+shared-slice-read-change-3 c = search needs
 
 change-requires : tie.Need-change-requires Inv-loop μ-loop
 change-requires c κs = search needs
@@ -58,6 +64,8 @@ changes-spec =
     shared-slice-read-change
     mul-change-2
     shared-slice-read-change-2
+    mul-change-3
+    shared-slice-read-change-3
     change-requires
     add-i
     loop-less

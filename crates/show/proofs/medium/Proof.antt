@@ -18,11 +18,17 @@ no-keys-requires c κs = search needs
 no-words-requires : tie.Need-no-words-requires
 no-words-requires c κs = search needs
 
+no-groups-requires : tie.Need-no-groups-requires
+no-groups-requires c κs = search needs
+
 slice-aggregate-log : tie.Need-slice-aggregate-log
 slice-aggregate-log c = search needs
 
 slice-aggregate-log-2 : tie.Need-slice-aggregate-log-2
 slice-aggregate-log-2 c = search needs
+
+slice-aggregate-log-3 : tie.Need-slice-aggregate-log-3
+slice-aggregate-log-3 c = search needs
 
 log-requires : tie.Need-log-requires
 log-requires c κs = search needs
@@ -38,6 +44,9 @@ slice-aggregate-changes c = search needs
 
 slice-aggregate-changes-2 : tie.Need-slice-aggregate-changes-2
 slice-aggregate-changes-2 c = search needs
+
+slice-aggregate-changes-3 : tie.Need-slice-aggregate-changes-3
+slice-aggregate-changes-3 c = search needs
 
 changes-requires : tie.Need-changes-requires
 changes-requires c κs = search needs
@@ -57,13 +66,16 @@ medium-spec =
     returns
     no-keys-requires
     no-words-requires
+    no-groups-requires
     slice-aggregate-log
     slice-aggregate-log-2
+    slice-aggregate-log-3
     log-requires
     refused-requires-2
     returns-2
     slice-aggregate-changes
     slice-aggregate-changes-2
+    slice-aggregate-changes-3
     changes-requires
     settings-requires
     returns-3)
