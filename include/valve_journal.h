@@ -6,7 +6,7 @@
  * ends the program.
  *
  * A lent pointer is aligned for its type and, where its length is not 0, points to that many elements, which nobody else writes while the
- * call runs. A list that a call writes overlaps no other list that is lent to the same call.
+ * call runs. What a call writes, be it a list, a buffer or a medium, overlaps nothing else that is lent to the same call.
  *
  * Only vj_step writes to a medium. An operation is begun by one call, vj_format, vj_append, vj_commit, vj_collect or vj_flush, which hands
  * back the state with the operation pending; then each vj_step makes one device step of it, until it tells that the operation is finished.
@@ -169,7 +169,7 @@ VjRecovered vj_recover(const uint8_t *medium, size_t medium_length);
 
 /* Reads the log into three lists: for each change in order the key and the word, as stored, and the number of its group, the first complete
  * group in the log being 0; a removal's key is 32768 + valve. Lists of 6144 places are long enough for every medium. Places past the log stay
- * as they were, and on a refusal all do. Refuses 1 to 6 and 17. */
+ * as they were, and on a refusal all do. The three may have any lengths. Refuses 1 to 6, and 17 where any of them is too short. */
 VjCount vj_log(const uint8_t *medium, size_t medium_length, uint16_t *keys, size_t keys_length, uint64_t *words, size_t words_length, uint32_t *groups, size_t groups_length);
 
 /* The part of the medium that is page p, counted from 0: 256 bytes from byte 256 x p on. Where the medium, of any length, lacks one of
