@@ -1,4 +1,5 @@
-/* Reads a medium from standard input; prints its log and the valves that are set, or the number of the refusal.
+/* Reads a medium of at most 65536 bytes from standard input; prints its log and the valves that are set, or the number of the refusal, 1 for
+ * more bytes.
  *
  *   rt staticlib journal_c
  *   cc -std=c99 -Wall -Wextra -I include examples/morning.c target/staticlib/libjournal_c.a -o target/morning_c

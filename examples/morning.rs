@@ -1,4 +1,5 @@
-// Reads a medium from standard input; prints its log and the valves that are set, or the number of the refusal.
+// Reads a medium of at most 65536 bytes from standard input; prints its log and the valves that are set, or the number of the refusal, 1 for
+// more bytes.
 //
 //   rt staticlib journal_c
 //   rustc --edition 2021 -O -L target/staticlib examples/morning.rs -o target/morning_rs

@@ -1,9 +1,12 @@
 /* The valve journal for C programs: recovery, the log, the pages of a medium, the readings of a state, the operations that write, and the
  * write buffer.
  *
- * A medium is a run of bytes in memory, lent to each call as a pointer and a length. It has 4 to 16 blocks of 4096 bytes; a block has 16
+ * A medium is a run of bytes in memory, lent to each call as a pointer and a length. It has 4 to 256 blocks of 4096 bytes; a block has 16
  * pages of 256 bytes. Every call takes a medium of any length and any content and answers; none keeps a pointer, allocates, prints or
  * ends the program.
+ *
+ * Stack, with arguments and answer, measured on x86-64 over media of 256 blocks of every shape: vj_recover 98304 bytes at most, vj_log 90112,
+ * vj_step 53248, any other call 40960. tests/tests/stack.rs has the limit of each call and measures it.
  *
  * A lent pointer is aligned for its type and, where its length is not 0, points to that many elements, which nobody else writes while the
  * call runs. What a call writes, be it a list, a buffer or a medium, overlaps nothing else that is lent to the same call.
@@ -19,7 +22,7 @@
  * is neither empty nor a page in the making, or of another length, is refused with 7.
  *
  * Numbers of refusals. 0 is no refusal; each call says its numbers in the order in which they are asked, and gives the first that applies.
- *   1  the medium's length is not 4 to 16 times 4096 bytes
+ *   1  the medium's length is not 4 to 256 times 4096 bytes
  *   2  a whole page breaks the page rules
  *   3  two whole pages share a serial
  *   4  no complete base
@@ -49,6 +52,9 @@
 #ifdef __cplusplus
 extern "C" {
 #endif
+
+/* The most blocks that a medium has. */
+enum { VJ_MOST_BLOCKS = 256 };
 
 /* A list of at most 192 numbers under keys, the number under keys[i] in vals[i]. In the index: a valve and the address of its entry,
  * 24 x page + place. In a group: a key and a word; the key is the valve, or 32768 + valve for a removal. */
@@ -88,7 +94,8 @@ typedef struct VjState {
     uint16_t pages[4];   /* the pages that a pending append has written, the first `progress`; else they mean nothing */
     uint8_t operation;   /* what is pending: VJ_IDLE to VJ_FLUSH */
     uint64_t progress;   /* how far it is, or its block */
-    uint8_t erased[256]; /* for each block 1 where a step erased it since recovery or since formatting began; any other number is no record */
+    uint8_t erased[VJ_MOST_BLOCKS]; /* for each block 1 where a step erased it since recovery or since formatting began; any other number is
+                                     * no record */
 } VjState;
 
 /* What vj_recover answers. */
@@ -132,9 +139,9 @@ typedef struct VjPick {
 
 /* What vj_survey answers. */
 typedef struct VjSurvey {
-    uint8_t number;      /* 0, or the number of the refusal */
-    uint16_t counts[48]; /* for block b from 3 x b on: its whole, clean and spoilt pages; 0 past the last block; on a refusal they mean
-                          * nothing */
+    uint8_t number;                      /* 0, or the number of the refusal */
+    uint16_t counts[3 * VJ_MOST_BLOCKS]; /* for block b from 3 x b on: its whole, clean and spoilt pages; 0 past the last block; on a
+                                          * refusal they mean nothing */
 } VjSurvey;
 
 /* What vj_available answers. */
@@ -168,8 +175,8 @@ typedef struct VjStepped {
 VjRecovered vj_recover(const uint8_t *medium, size_t medium_length);
 
 /* Reads the log into three lists: for each change in order the key and the word, as stored, and the number of its group, the first complete
- * group in the log being 0; a removal's key is 32768 + valve. Lists of 6144 places are long enough for every medium. Places past the log stay
- * as they were, and on a refusal all do. The three may have any lengths. Refuses 1 to 6, and 17 where any of them is too short. */
+ * group in the log being 0; a removal's key is 32768 + valve. Lists of 384 places for each block of the medium are long enough. Places past
+ * the log stay as they were, and on a refusal all do. The three may have any lengths. Refuses 1 to 6, and 17 where any of them is too short. */
 VjCount vj_log(const uint8_t *medium, size_t medium_length, uint16_t *keys, size_t keys_length, uint64_t *words, size_t words_length, uint32_t *groups, size_t groups_length);
 
 /* The part of the medium that is page p, counted from 0: 256 bytes from byte 256 x p on. Where the medium, of any length, lacks one of

@@ -2,6 +2,9 @@
 //!
 //! Link with `target/staticlib/libjournal_c.a`, which `rt staticlib journal_c` writes.
 
+/// The most blocks that a medium has.
+pub const MOST_BLOCKS: usize = 256;
+
 /// A list of at most 192 numbers under keys.
 #[repr(C)]
 #[derive(Clone, Copy, PartialEq, Eq, Debug)]
@@ -32,7 +35,7 @@ pub struct VjState {
     pub pages: [u16; 4],
     pub operation: u8,
     pub progress: u64,
-    pub erased: [u8; 256],
+    pub erased: [u8; MOST_BLOCKS],
 }
 
 /// The values of [`VjState::operation`]; any other names no operation.
@@ -106,7 +109,7 @@ pub struct VjPick {
 #[derive(Clone, Copy)]
 pub struct VjSurvey {
     pub number: u8,
-    pub counts: [u16; 48],
+    pub counts: [u16; 3 * MOST_BLOCKS],
 }
 
 /// What `vj_available` answers.

@@ -1,163 +1,104 @@
 //! The time of the proved library over that of the second implementation, on
-//! media of 16 blocks. Both make the same calls in turn in one process, each
-//! call with all its checks; the least of many times counts.
+//! media of 16 and of 256 blocks. Both make the same calls in turn in one
+//! process, each call with all its checks; the least of many times counts.
 //!
 //!     cargo bench --offline --manifest-path tests/Cargo.toml
 
-use journal_tests::proved::{self, VjState};
-use journal_tests::reader::{self, Refused, BLOCK_BYTES, PAGE_BYTES};
-use journal_tests::writer::{self, State, Step};
+use journal_tests::calls::{Calls, Proved, Second, EMPTY};
+use journal_tests::grown::shuffle_blocks;
+use journal_tests::random::{Life, Random};
+use journal_tests::reader::{self, Refused, BLOCK_BYTES, BLOCK_PAGES};
+use journal_tests::writer::{self, State};
 use std::hint::black_box;
 use std::time::{Duration, Instant};
 
-// ---------------------------------------------------------------------------
-// The calls of either implementation
-
-trait Calls {
-    type State: Clone;
-    fn of(state: &State) -> Self::State;
-    fn recover(medium: &[u8]) -> Result<Self::State, Refused>;
-    fn log_into(m: &[u8], k: &mut [u16], w: &mut [u64], g: &mut [u32]) -> Result<usize, Refused>;
-    fn append(m: &[u8], state: &mut Self::State, k: &[u16], w: &[u64]) -> Result<(), Refused>;
-    fn commit(medium: &[u8], state: &mut Self::State) -> Result<(), Refused>;
-    fn collect(medium: &[u8], state: &mut Self::State, block: usize) -> Result<(), Refused>;
-    fn buffer(
-        m: &[u8],
-        state: &Self::State,
-        b: &mut [u8],
-        k: &[u16],
-        w: &[u64],
-    ) -> Result<(), Refused>;
-    fn flush(medium: &[u8], state: &mut Self::State, buffer: &[u8]) -> Result<(), Refused>;
-    fn step(m: &mut [u8], state: &mut Self::State, buffer: &mut [u8]) -> Result<Step, Refused>;
-
-    /// Steps until the pending operation is finished.
-    fn finish(medium: &mut [u8], state: &mut Self::State, buffer: &mut [u8]) {
-        while !Self::step(medium, state, buffer).expect("a step").finished {}
-    }
-
-    /// The same with an empty buffer.
-    fn finish_unbuffered(medium: &mut [u8], state: &mut Self::State) {
-        Self::finish(medium, state, &mut { EMPTY });
-    }
+/// What a run is given: a medium, a state, and lists that its log fits in.
+struct Lent<C: Calls> {
+    medium: Vec<u8>,
+    state: C::State,
+    keys: Vec<u16>,
+    words: Vec<u64>,
+    groups: Vec<u32>,
 }
-
-/// An empty buffer.
-const EMPTY: [u8; PAGE_BYTES] = [0xFF; PAGE_BYTES];
-
-/// Takes the calls that read and those that write from these modules.
-macro_rules! calls {
-    ($name:ident, $state:ty, $of:expr, $reader:ident, $writer:ident) => {
-        struct $name;
-
-        impl Calls for $name {
-            type State = $state;
-            fn of(state: &State) -> $state {
-                $of(state)
-            }
-            fn recover(medium: &[u8]) -> Result<$state, Refused> {
-                $reader::recover(medium)
-            }
-            fn log_into(
-                m: &[u8],
-                k: &mut [u16],
-                w: &mut [u64],
-                g: &mut [u32],
-            ) -> Result<usize, Refused> {
-                $reader::log_into(m, k, w, g)
-            }
-            fn append(m: &[u8], state: &mut $state, k: &[u16], w: &[u64]) -> Result<(), Refused> {
-                $writer::append(m, state, &EMPTY, k, w)
-            }
-            fn commit(medium: &[u8], state: &mut $state) -> Result<(), Refused> {
-                $writer::commit(medium, state, &EMPTY)
-            }
-            fn collect(medium: &[u8], state: &mut $state, block: usize) -> Result<(), Refused> {
-                $writer::collect(medium, state, &EMPTY, block)
-            }
-            fn buffer(
-                m: &[u8],
-                state: &$state,
-                b: &mut [u8],
-                k: &[u16],
-                w: &[u64],
-            ) -> Result<(), Refused> {
-                $writer::buffer(m, state, b, k, w)
-            }
-            fn flush(medium: &[u8], state: &mut $state, buffer: &[u8]) -> Result<(), Refused> {
-                $writer::flush(medium, state, buffer)
-            }
-            fn step(m: &mut [u8], state: &mut $state, buffer: &mut [u8]) -> Result<Step, Refused> {
-                $writer::step(m, state, buffer)
-            }
-        }
-    };
-}
-
-calls!(Proved, VjState, VjState::from, proved, proved);
-calls!(Second, State, State::clone, reader, writer);
 
 // ---------------------------------------------------------------------------
 // What is timed
 
 /// Recovery alone.
-fn recovery<C: Calls>(medium: &mut [u8], _: C::State) {
-    assert!(black_box(C::recover(black_box(medium))).is_ok());
+fn recovery<C: Calls>(lent: &mut Lent<C>) {
+    assert!(black_box(C::recover(black_box(&lent.medium))).is_ok());
 }
 
 /// The log into three lists.
-fn log<C: Calls>(medium: &mut [u8], _: C::State) {
-    read_log::<C>(medium);
-}
-
-fn read_log<C: Calls>(medium: &[u8]) {
-    let (mut keys, mut words, mut groups) = ([0; 6144], [0; 6144], [0; 6144]);
-    black_box(C::log_into(medium, &mut keys, &mut words, &mut groups).expect("the log"));
+fn log<C: Calls>(lent: &mut Lent<C>) {
+    let Lent { medium, keys, words, groups, .. } = lent;
+    black_box(C::log_into(medium, keys, words, groups).expect("the log"));
 }
 
 /// A morning: recovery, the log into three lists, a commit to its end.
-fn morning<C: Calls>(medium: &mut [u8], _: C::State) {
-    let mut state = C::recover(medium).expect("recovery");
-    read_log::<C>(medium);
-    C::commit(medium, &mut state).expect("commit");
-    C::finish_unbuffered(medium, &mut state);
+fn morning<C: Calls>(lent: &mut Lent<C>) {
+    lent.state = C::recover(&lent.medium).expect("recovery");
+    log(lent);
+    commit(lent);
+}
+
+/// A commit to its end.
+fn commit<C: Calls>(lent: &mut Lent<C>) {
+    C::commit(&lent.medium, &mut lent.state, &EMPTY).expect("commit");
+    C::finish_unbuffered(&mut lent.medium, &mut lent.state);
+}
+
+/// One group of so many entries to its end.
+fn append<C: Calls, const ENTRIES: usize>(lent: &mut Lent<C>) {
+    let (keys, words) = some_group::<ENTRIES>(0);
+    C::append(&lent.medium, &mut lent.state, &EMPTY, &keys, &words).expect("append");
+    C::finish_unbuffered(&mut lent.medium, &mut lent.state);
 }
 
 /// Groups of so many entries, until one is refused.
-fn appends<C: Calls, const ENTRIES: usize>(medium: &mut [u8], mut state: C::State) {
+fn appends<C: Calls, const ENTRIES: usize>(lent: &mut Lent<C>) {
+    let (medium, state) = (&mut lent.medium, &mut lent.state);
     for group in 0.. {
         let (keys, words) = some_group::<ENTRIES>(group);
-        if let Err(refused) = C::append(medium, &mut state, &keys, &words) {
-            assert_eq!((refused, group), (Refused(13), 239));
+        if let Err(refused) = C::append(medium, state, &EMPTY, &keys, &words) {
+            assert_eq!((refused, group), (Refused(13), medium.len() / 256 - 17));
             return;
         }
-        C::finish_unbuffered(medium, &mut state);
+        C::finish_unbuffered(medium, state);
     }
 }
 
 /// Single moves put into the buffer, which is flushed where it is full, until
 /// one is refused by 13.
-fn gathered<C: Calls>(medium: &mut [u8], mut state: C::State) {
-    let mut buffer = EMPTY;
+fn gathered<C: Calls>(lent: &mut Lent<C>) {
+    let (medium, state, mut buffer) = (&mut lent.medium, &mut lent.state, EMPTY);
     for group in 0.. {
         let (keys, words) = some_group::<1>(group);
-        let mut result = C::buffer(medium, &state, &mut buffer, &keys, &words);
+        let mut result = C::buffer(medium, state, &mut buffer, &keys, &words);
         if result == Err(Refused(23)) {
-            C::flush(medium, &mut state, &buffer).expect("flush");
-            C::finish(medium, &mut state, &mut buffer);
-            result = C::buffer(medium, &state, &mut buffer, &keys, &words);
+            C::flush(medium, state, &buffer).expect("flush");
+            C::finish(medium, state, &mut buffer);
+            result = C::buffer(medium, state, &mut buffer, &keys, &words);
         }
         if let Err(refused) = result {
-            assert_eq!((refused, group), (Refused(13), 239 * 16));
+            assert_eq!((refused, group), (Refused(13), (medium.len() / 256 - 17) * 16));
             return;
         }
     }
 }
 
-/// A collection of block 0 to its end.
-fn collection<C: Calls>(medium: &mut [u8], mut state: C::State) {
-    C::collect(medium, &mut state, 0).expect("collect");
-    C::finish_unbuffered(medium, &mut state);
+/// A collection of the picker's block to its end.
+fn collection<C: Calls>(lent: &mut Lent<C>) {
+    let block = C::pick(&lent.medium, &lent.state).expect("a fit state").expect("a block");
+    C::collect(&lent.medium, &mut lent.state, &EMPTY, block).expect("collect");
+    C::finish_unbuffered(&mut lent.medium, &mut lent.state);
+}
+
+/// The openings of 24 valves: those of the first group.
+fn openings<C: Calls>(lent: &mut Lent<C>) {
+    for key in some_group::<24>(0).0 {
+        black_box(C::open(&lent.medium, &lent.state, key)).expect("an opening");
+    }
 }
 
 /// The keys and words of the n-th group.
@@ -170,19 +111,22 @@ fn some_group<const ENTRIES: usize>(group: usize) -> ([u16; ENTRIES], [u64; ENTR
 // ---------------------------------------------------------------------------
 // Media, written by the second implementation
 
-fn formatted() -> (Vec<u8>, State) {
-    let mut medium = vec![0xFF; 16 * BLOCK_BYTES];
+/// A medium and its state.
+type Journal = (Vec<u8>, State);
+
+fn formatted(blocks: usize) -> Journal {
+    let mut medium = vec![0xFF; blocks * BLOCK_BYTES];
     let mut state = writer::format(&medium).expect("format");
     Second::finish_unbuffered(&mut medium, &mut state);
     (medium, state)
 }
 
 /// So many groups of 24 entries after formatting, or as many as pass.
-fn grown(groups: usize) -> (Vec<u8>, State) {
-    let (mut medium, mut state) = formatted();
+fn grown(blocks: usize, groups: usize) -> Journal {
+    let (mut medium, mut state) = formatted(blocks);
     for group in 0..groups {
         let (keys, words) = some_group::<24>(group);
-        if Second::append(&medium, &mut state, &keys, &words).is_err() {
+        if Second::append(&medium, &mut state, &EMPTY, &keys, &words).is_err() {
             break;
         }
         Second::finish_unbuffered(&mut medium, &mut state);
@@ -190,53 +134,79 @@ fn grown(groups: usize) -> (Vec<u8>, State) {
     (medium, state)
 }
 
-/// Single moves gathered and flushed after formatting, as many as pass.
-fn gathered_full() -> (Vec<u8>, State) {
-    let (mut medium, state) = formatted();
-    gathered::<Second>(&mut medium, state);
-    let state = reader::recover(&medium).expect("recovery");
-    (medium, state)
+/// Groups of 24 until 13.
+fn full(blocks: usize) -> Journal {
+    grown(blocks, usize::MAX)
 }
 
-/// Block 0 written to its end and a commit behind it: block 0 is collectible,
-/// and all valves live in it.
-fn collectible() -> (Vec<u8>, State) {
-    let (mut medium, mut state) = grown(15);
-    Second::commit(&medium, &mut state).expect("commit");
-    Second::finish_unbuffered(&mut medium, &mut state);
-    assert_eq!(reader::pick(&medium, &state), Ok(Some(0)));
-    assert_eq!(reader::live_count(&state, 0), state.index.len());
-    assert!(state.index.len() > 96);
-    (medium, state)
+/// The same but for the last group: one more passes.
+fn almost_full(blocks: usize) -> Journal {
+    grown(blocks, 16 * blocks - 18)
+}
+
+/// The same journal with its blocks in any order.
+fn shuffled((medium, state): Journal) -> Journal {
+    let mut random = Random::new(7);
+    let mut life = Life::blank(&mut random, state.blocks);
+    (life.medium, life.state) = (medium, Some(state));
+    shuffle_blocks(&mut random, &mut life);
+    (life.medium, life.state.expect("a state"))
+}
+
+/// Single moves gathered and flushed after formatting, as many as pass.
+fn gathered_full(blocks: usize) -> Journal {
+    let mut lent = lend::<Second>(&formatted(blocks));
+    gathered(&mut lent);
+    let state = reader::recover(&lent.medium).expect("recovery");
+    (lent.medium, state)
+}
+
+/// The head closed and a commit behind it, then collections till the picker's
+/// block has nodes to move.
+fn collectible((medium, state): Journal) -> Journal {
+    let closed = State { next_page: BLOCK_PAGES, ..state };
+    let mut lent = lend::<Second>(&(medium, closed));
+    commit(&mut lent);
+    loop {
+        let picked = reader::pick(&lent.medium, &lent.state).expect("a fit state");
+        if reader::live_count(&lent.state, picked.expect("a block")) > 0 {
+            return (lent.medium, lent.state);
+        }
+        collection(&mut lent);
+    }
 }
 
 // ---------------------------------------------------------------------------
 // Times
 
+/// A copy of the journal, and lists as long as its log can be.
+fn lend<C: Calls>((medium, state): &Journal) -> Lent<C> {
+    let (medium, state, most) = (medium.clone(), C::of(state), reader::most_changes(medium));
+    let (keys, words, groups) = (vec![1; most], vec![1; most], vec![1; most]);
+    Lent { medium, state, keys, words, groups }
+}
+
 /// The time of one run on a fresh medium and state.
-fn time<C: Calls>(
-    (medium, state): &(Vec<u8>, State),
-    run: impl Fn(&mut [u8], C::State),
-) -> Duration {
-    let (mut medium, state) = (medium.clone(), C::of(state));
+fn time<C: Calls>(journal: &Journal, run: impl Fn(&mut Lent<C>)) -> Duration {
+    let mut lent = lend(journal);
     let start = Instant::now();
-    run(&mut medium, state);
+    run(&mut lent);
     start.elapsed()
 }
 
-/// Runs both in turn for some seconds, at least 40 times, and prints the least
+/// Runs both in turn for some seconds, at least 5 times, and prints the least
 /// time of each and their ratio.
 fn compare(
     name: &str,
-    journal: (Vec<u8>, State),
-    proved: impl Fn(&mut [u8], VjState),
-    second: impl Fn(&mut [u8], State),
+    journal: &Journal,
+    proved: impl Fn(&mut Lent<Proved>),
+    second: impl Fn(&mut Lent<Second>),
 ) {
     let (mut least_proved, mut least_second) = (Duration::MAX, Duration::MAX);
     let (start, mut runs) = (Instant::now(), 0);
-    while runs < 40 || start.elapsed() < Duration::from_secs(2) {
-        least_proved = least_proved.min(time::<Proved>(&journal, &proved));
-        least_second = least_second.min(time::<Second>(&journal, &second));
+    while runs < 5 || start.elapsed() < Duration::from_secs(2) {
+        least_proved = least_proved.min(time(journal, &proved));
+        least_second = least_second.min(time(journal, &second));
         runs += 1;
     }
     let ratio = least_proved.as_secs_f64() / least_second.as_secs_f64();
@@ -248,20 +218,51 @@ fn micros(time: Duration) -> f64 {
     time.as_secs_f64() * 1e6
 }
 
+/// The same calls of both.
+macro_rules! compare {
+    ($name:expr, $journal:expr, $run:ident $(, $entries:expr)?) => {
+        compare($name, $journal, $run::<Proved $(, $entries)?>, $run::<Second $(, $entries)?>)
+    };
+}
+
 fn main() {
-    compare("recovery, full", grown(1000), recovery::<Proved>, recovery::<Second>);
-    compare("recovery, mostly clean", grown(8), recovery::<Proved>, recovery::<Second>);
-    compare("the log, full", grown(1000), log::<Proved>, log::<Second>);
-    let name = "the log, full of single moves gathered";
-    compare(name, gathered_full(), log::<Proved>, log::<Second>);
-    compare("a morning", grown(100), morning::<Proved>, morning::<Second>);
-    let (proved, second) = (appends::<Proved, 24>, appends::<Second, 24>);
-    compare("groups of 24 until 13", formatted(), proved, second);
-    let (proved, second) = (appends::<Proved, 2>, appends::<Second, 2>);
-    compare("groups of 2 until 13", formatted(), proved, second);
-    let (proved, second) = (appends::<Proved, 1>, appends::<Second, 1>);
-    compare("239 single moves on 239 pages, appended until 13", formatted(), proved, second);
+    sixteen_blocks();
+    for (name, journal) in [
+        ("full", full(256)),
+        ("full, blocks in any order", shuffled(full(256))),
+        ("mostly clean", grown(256, 8)),
+    ] {
+        compare!(&format!("256 blocks, recovery, {name}"), &journal, recovery);
+        compare!(&format!("256 blocks, the log, {name}"), &journal, log);
+        compare!(&format!("256 blocks, 24 openings, {name}"), &journal, openings);
+        compare!(&format!("256 blocks, a commit, {name}"), &journal, commit);
+    }
+    let journal = gathered_full(256);
+    compare!("256 blocks, the log, full of single moves gathered", &journal, log);
+    for (name, journal) in [
+        ("almost full", almost_full(256)),
+        ("almost full, blocks in any order", shuffled(almost_full(256))),
+        ("mostly clean", grown(256, 24)),
+    ] {
+        compare!(&format!("256 blocks, a group of 24, {name}"), &journal, append, 24);
+        let journal = collectible(journal);
+        compare!(&format!("256 blocks, pick and collect, {name}"), &journal, collection);
+    }
+    compare!("256 blocks, groups of 24 until 13", &formatted(256), appends, 24);
+}
+
+fn sixteen_blocks() {
+    let journal = full(16);
+    compare!("recovery, full", &journal, recovery);
+    compare!("recovery, mostly clean", &grown(16, 8), recovery);
+    compare!("the log, full", &journal, log);
+    compare!("the log, full of single moves gathered", &gathered_full(16), log);
+    compare!("a morning", &grown(16, 100), morning);
+    let formatted = formatted(16);
+    compare!("groups of 24 until 13", &formatted, appends, 24);
+    compare!("groups of 2 until 13", &formatted, appends, 2);
+    compare!("239 single moves on 239 pages, appended until 13", &formatted, appends, 1);
     let name = "3824 single moves on 239 pages, gathered and flushed until 13";
-    compare(name, formatted(), gathered::<Proved>, gathered::<Second>);
-    compare("a collection", collectible(), collection::<Proved>, collection::<Second>);
+    compare!(name, &formatted, gathered);
+    compare!("a collection", &collectible(grown(16, 15)), collection);
 }

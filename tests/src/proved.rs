@@ -174,8 +174,11 @@ pub fn pick(medium: &[u8], state: &VjState) -> Result<Option<usize>, Refused> {
 /// The survey.
 pub fn survey(medium: &[u8], state: &VjState) -> Result<[[u32; 3]; MAX_BLOCKS], Refused> {
     let r = unsafe { vj_survey(medium.as_ptr(), medium.len(), *state) };
-    let count = |block: usize, column: usize| u32::from(r.counts[3 * block + column]);
-    answer(r.number, std::array::from_fn(|block| std::array::from_fn(|c| count(block, c))))
+    let mut rows = [[0; 3]; MAX_BLOCKS];
+    for (row, counts) in rows.iter_mut().zip(r.counts.chunks_exact(3)) {
+        *row = [counts[0], counts[1], counts[2]].map(u32::from);
+    }
+    answer(r.number, rows)
 }
 
 /// Available pages.

@@ -1,11 +1,12 @@
 //! Media by chance: lives of a journal with cuts, damage, and media sketched
 //! page by page, one for each refusal. The same seed gives the same media.
 
+use crate::grown::{some_blocks, some_grown, FEW_BLOCKS};
 use crate::history::{Event, History};
 use crate::reader::{
     self, Class, Entry, Page, Place, Refused, BASE, BLOCK_BYTES, BLOCK_PAGES, BUFFER_ENTRIES,
-    GATHERED, GROUP_ENTRIES, MAX_BLOCKS, MAX_VALVES, MIN_BLOCKS, MOVED, NODES, PAGE_BYTES,
-    PAGE_ENTRIES, RECORDS, REMOVAL,
+    GATHERED, GROUP_ENTRIES, MAX_BLOCKS, MAX_VALVES, MOVED, NODES, PAGE_BYTES, PAGE_ENTRIES,
+    RECORDS, REMOVAL,
 };
 use crate::writer::{self, lay_gathered, lay_page, put_page, seal, Pending, State, Step, Touched};
 
@@ -219,18 +220,63 @@ impl Habits {
 }
 
 impl Life {
-    /// A life on any medium of allowed length, not yet formatted.
+    /// A life on a medium of some block count.
     pub fn new(random: &mut Random) -> Life {
-        let blocks = random.from_to(MIN_BLOCKS, MAX_BLOCKS);
-        let mut medium = vec![0xFF; blocks * BLOCK_BYTES];
+        let blocks = some_blocks(random);
+        Life::on(random, blocks)
+    }
+
+    /// A life on any medium of so many blocks, not yet formatted; or, where
+    /// these are many, mostly with a journal that was written for long.
+    pub fn on(random: &mut Random, blocks: usize) -> Life {
+        if blocks > FEW_BLOCKS && !random.one_in(4) {
+            return some_grown(random, blocks);
+        }
+        let mut life = Life::blank(random, blocks);
         match random.below(3) {
             0 => {}
-            1 => medium.fill(0),
-            _ => random.fill(&mut medium),
+            1 => life.medium.fill(0),
+            _ => random.fill(&mut life.medium),
         }
-        let (weak, habits) = (vec![true; blocks], Habits::new(random));
-        let buffer = [0xFF; PAGE_BYTES];
-        Life { medium, buffer, weak, state: None, history: None, habits, full: 0 }
+        life
+    }
+
+    /// A life on a medium that reads clean, not yet formatted.
+    pub fn blank(random: &mut Random, blocks: usize) -> Life {
+        Life {
+            medium: vec![0xFF; blocks * BLOCK_BYTES],
+            buffer: [0xFF; PAGE_BYTES],
+            weak: vec![true; blocks],
+            state: None,
+            history: None,
+            habits: Habits::new(random),
+            full: 0,
+        }
+    }
+
+    /// From now on it is led otherwise.
+    pub fn change_habits(&mut self, random: &mut Random) {
+        self.habits = Habits::new(random);
+        self.full = 0;
+    }
+
+    /// How many refusals with 13 or 14 are borne before formatting: more where
+    /// this takes longer.
+    fn patience(&self) -> usize {
+        if self.weak.len() > FEW_BLOCKS {
+            50
+        } else {
+            4
+        }
+    }
+
+    /// How much seldomer formatting is disturbed, where it takes many steps.
+    fn undisturbed(&self) -> usize {
+        if self.weak.len() > FEW_BLOCKS {
+            20
+        } else {
+            1
+        }
     }
 
     /// Whether formatting was finished and nothing was begun or buffered since.
@@ -260,7 +306,10 @@ impl Life {
             return self.after_a_cut(random);
         };
         let formatting = matches!(state.pending, Some(Pending::Format { .. }));
-        if (self.history.is_none() && !formatting) || self.full > 4 || random.one_in(2000) {
+        if (self.history.is_none() && !formatting)
+            || self.full > self.patience()
+            || random.one_in(2000)
+        {
             return Action::Format;
         }
         if random.one_in(12) {
@@ -289,7 +338,7 @@ impl Life {
         let flush = state.pending == Some(Pending::Flush);
         let erase_due = reader::erase_due(&self.medium, state).is_some();
         let times = match self.habits.cut_one_in {
-            _ if formatting => 200,
+            _ if formatting => 200 * self.undisturbed(),
             times if erase_due || flush => times.min(4),
             times => times,
         };
@@ -332,10 +381,10 @@ impl Life {
             1 => self.spoilt_append(random),
             2 => Action::Commit,
             3 => Action::Collect { block: random.below(state.blocks + 2) },
-            4 => Action::Collect { block: random.one_of(&[state.blocks, 255, usize::MAX]) },
+            4 => Action::Collect { block: random.one_of(&[state.blocks, 256, usize::MAX]) },
             5 => Action::Step,
-            6 if self.history.is_some() || random.one_in(5) => Action::Recover,
-            7 if self.history.is_some() || random.one_in(5) => Action::Cut,
+            6 if self.history.is_some() || random.one_in(5 * self.undisturbed()) => Action::Recover,
+            7 if self.history.is_some() || random.one_in(5 * self.undisturbed()) => Action::Cut,
             8 => buffered(self.some_append(random, 0, GROUP_ENTRIES + 2)),
             9 => buffered(self.spoilt_append(random)),
             10 => Action::Flush,
@@ -351,7 +400,10 @@ impl Life {
                 let mut length = || random.below(300);
                 Reading::Log { keys: length(), words: length(), groups: length() }
             }
-            3 => Reading::Log { keys: 5000, words: 5000, groups: 5000 },
+            3 => {
+                let places = reader::most_changes(&self.medium);
+                Reading::Log { keys: places, words: places, groups: places }
+            }
             4 => Reading::Available,
             5 => Reading::Open { valve: random.bits() as u16 },
             6 => Reading::Word { valve: random.bits() as u16 },
@@ -585,10 +637,17 @@ fn read(medium: &[u8], state: &State, buffer: &[u8], reading: Reading) -> Result
     }
 }
 
-/// A life after so many events.
+/// A life of some block count after so many events.
 pub fn lived(random: &mut Random, events: usize) -> Life {
-    let mut life = Life::new(random);
-    for _ in 0..events {
+    let blocks = some_blocks(random);
+    lived_on(random, blocks, events)
+}
+
+/// A life on so many blocks after so many events; where the blocks are many,
+/// after a quarter of them.
+pub fn lived_on(random: &mut Random, blocks: usize, events: usize) -> Life {
+    let mut life = Life::on(random, blocks);
+    for _ in 0..if blocks > FEW_BLOCKS { events / 4 } else { events } {
         let action = life.next_action(random);
         life.act(&action);
     }
@@ -597,9 +656,15 @@ pub fn lived(random: &mut Random, events: usize) -> Life {
 
 /// A medium that a life of up to 400 events has left and that recovery takes.
 pub fn medium(random: &mut Random) -> Vec<u8> {
+    let blocks = some_blocks(random);
+    medium_on(random, blocks)
+}
+
+/// The same of so many blocks.
+pub fn medium_on(random: &mut Random, blocks: usize) -> Vec<u8> {
     for _ in 0..1000 {
         let events = random.from_to(20, 400);
-        let life = lived(random, events);
+        let life = lived_on(random, blocks, events);
         if life.history.is_some() {
             return life.medium;
         }
@@ -693,11 +758,13 @@ pub fn resealed_change(random: &mut Random, medium: &mut [u8]) {
 
 /// Gives the medium another length, mostly one that is not allowed.
 pub fn change_length(random: &mut Random, medium: &mut Vec<u8>) {
-    let most = (MAX_BLOCKS + 2) * BLOCK_BYTES;
-    let length = match random.below(4) {
-        0 => random.below(MAX_BLOCKS + 3) * BLOCK_BYTES,
-        1 => random.below(most),
-        2 => medium.len() + 1,
+    let ends = [FEW_BLOCKS, FEW_BLOCKS + 1, MAX_BLOCKS, MAX_BLOCKS + 1, MAX_BLOCKS + 2];
+    let length = match random.below(8) {
+        0 | 1 => random.below(FEW_BLOCKS + 3) * BLOCK_BYTES,
+        2 => random.below((FEW_BLOCKS + 2) * BLOCK_BYTES),
+        3 if random.one_in(4) => random.one_of(&ends) * BLOCK_BYTES,
+        3 => random.below(medium.len() + BLOCK_BYTES),
+        4 | 5 => medium.len() + 1,
         _ => medium.len() - 1,
     };
     medium.resize(length, 0xFF);
@@ -721,10 +788,16 @@ pub struct Sketch {
 impl Sketch {
     /// A clean medium; the pages will stand in any order.
     pub fn new(random: &mut Random) -> Sketch {
-        let blocks = random.from_to(MIN_BLOCKS, MAX_BLOCKS);
+        let blocks = some_blocks(random);
+        Sketch::on(random, blocks)
+    }
+
+    /// The same of so many blocks. The last serials suffice for all pages.
+    pub fn on(random: &mut Random, blocks: usize) -> Sketch {
         let mut free: Vec<usize> = (0..blocks * BLOCK_PAGES).collect();
         random.shuffle(&mut free);
-        let serial = random.one_of(&[1, 2, 255, 1 << 32, u64::MAX - 300]);
+        let near_the_last = u64::MAX - 44 - free.len() as u64;
+        let serial = random.one_of(&[1, 2, 255, 1 << 32, near_the_last]);
         Sketch { medium: vec![0xFF; blocks * BLOCK_BYTES], free, serial, nodes: Vec::new() }
     }
 
@@ -881,7 +954,8 @@ pub fn refused_medium(random: &mut Random, number: u8, way: usize) -> Vec<u8> {
 }
 
 /// Lengths that are not allowed.
-const LENGTHS: [usize; 9] = [0, 1, 256, 4096, 12288, 16383, 16385, 65537, 69632];
+const LENGTHS: [usize; 11] =
+    [0, 1, 256, 4096, 12288, 16383, 16385, 65537, 1048575, 1048577, 1052672];
 
 fn refused_1(random: &mut Random, way: usize) -> Vec<u8> {
     let mut bytes = medium(random);
@@ -1216,7 +1290,7 @@ fn stray_address(random: &mut Random, sketch: &mut Sketch, way: usize) {
 pub fn damage_state(random: &mut Random, state: &mut State) {
     let blocks = state.blocks;
     match random.below(14) {
-        0 => state.blocks = random.from_to(MIN_BLOCKS, MAX_BLOCKS),
+        0 => state.blocks = some_blocks(random),
         1 => state.head = random.below(blocks + 2),
         2 => state.next_page = random.below(BLOCK_PAGES + 2),
         3 => state.next_serial = random.one_of(&[0, 1, 2, u64::MAX - 4, u64::MAX - 1, u64::MAX]),
@@ -1269,7 +1343,8 @@ fn some_pending_append(random: &mut Random) -> Pending {
     if length > 0 && random.one_in(4) {
         entries[0] = REMOVED_WITH_WORD;
     }
-    let written = (0..random.below(5)).map(|_| random.below(256) as u32).collect();
+    let pages = MAX_BLOCKS * BLOCK_PAGES;
+    let written = (0..random.below(5)).map(|_| random.below(pages) as u32).collect();
     Pending::Append { entries, written }
 }
 

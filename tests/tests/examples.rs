@@ -108,9 +108,10 @@ fn a_valve_twice_in_a_group() {
 
 #[test]
 fn lengths() {
-    assert_eq!(check_length(&vec![0; 65536]), Ok(16));
-    assert_eq!(check_length(&vec![0; 16384]), Ok(4));
-    for length in [69632, 12288, 16383, 16385, 0] {
+    for (length, blocks) in [(16384, 4), (65536, 16), (69632, 17), (1048576, 256)] {
+        assert_eq!(check_length(&vec![0; length]), Ok(blocks));
+    }
+    for length in [1052672, 1048577, 1048575, 65537, 12288, 16383, 16385, 0] {
         assert_eq!(check_length(&vec![0; length]), refused(1));
     }
 }
@@ -150,6 +151,12 @@ fn morning_prints() {
     assert_eq!(morning(&medium), "log 3\n0 5 1000\n0 7 20\n1 5 -\nset 1\n7 20\n");
     assert_eq!(morning(&blank(4)), "refused 4\n");
     assert_eq!(morning(&medium[..12288]), "refused 1\n");
+    // More blocks than the program takes: the library reads them.
+    medium.resize(16 * BLOCK_BYTES, 0xFF);
+    assert_eq!(morning(&medium), "log 3\n0 5 1000\n0 7 20\n1 5 -\nset 1\n7 20\n");
+    medium.resize(17 * BLOCK_BYTES, 0xFF);
+    assert_eq!(morning(&medium), "refused 1\n");
+    assert_eq!(recovery_number(&medium), 0);
 }
 
 #[test]

@@ -4,6 +4,7 @@
 mod common;
 
 use common::*;
+use journal_tests::grown::{some_blocks, BLOCK_COUNTS};
 use journal_tests::proved;
 use journal_tests::random::{refused_medium, ways, Random, Sketch};
 use journal_tests::reader::*;
@@ -99,7 +100,12 @@ struct Laid {
 
 impl Laid {
     fn new(random: &mut Random) -> Laid {
-        let mut sketch = Sketch::new(random);
+        let blocks = some_blocks(random);
+        Laid::on(random, blocks)
+    }
+
+    fn on(random: &mut Random, blocks: usize) -> Laid {
+        let mut sketch = Sketch::on(random, blocks);
         sketch.add_base();
         Laid { sketch, entries: Entries::default(), log: Vec::new() }
     }
@@ -164,16 +170,16 @@ fn pieces_in_every_order() {
 fn full_media_of_pieces() {
     let mut random = Random::new(62);
     let mut most = 0;
-    for _ in 0..60 {
-        let mut laid = Laid::new(&mut random);
-        let pages = laid.sketch.medium.len() / PAGE_BYTES;
+    for blocks in (4..=16).cycle().take(60).chain(BLOCK_COUNTS) {
+        let mut laid = Laid::on(&mut random, blocks);
+        let pages = blocks * BLOCK_PAGES;
         let last = laid.sketch.serial + (pages - 1 - PIECE_PAGES) as u64;
         while laid.sketch.serial <= last {
             let piece = random.one_of(&PIECES);
             if !matches!(piece, Base) || random.one_in(8) {
                 laid.add(piece);
             }
-            if random.one_in(8) {
+            if random.one_in(if blocks > 16 { pages / 4 } else { 8 }) {
                 laid.check();
             }
         }
@@ -183,27 +189,37 @@ fn full_media_of_pieces() {
     assert!(most > 256, "{most} groups at most");
 }
 
-/// As many groups as a medium of 16 blocks can hold, on pages of kind 4 and on
-/// pages of their own.
+/// As many groups as a medium can hold, on pages of kind 4 and on pages of
+/// their own, and as many changes.
 #[test]
 fn media_with_the_most_groups() {
-    let mut entries = Entries::default();
-    for sizes in [[1; 16].as_slice(), &[1]] {
-        let (mut medium, mut log) = (blank(16), Vec::new());
-        put_page(&mut medium, 0, &lay_page(BASE, 3, 1, &[]));
-        for page in 1..256 {
-            let groups = entries.groups(sizes);
-            let parts: Vec<&[Entry]> = groups.iter().map(Vec::as_slice).collect();
-            let bytes = match sizes.len() {
-                1 => lay_page(NODES, 3, page as u64 + 1, parts[0]),
-                _ => lay_gathered(page as u64 + 1, &parts),
-            };
-            put_page(&mut medium, page, &bytes);
-            log.extend(groups);
+    for blocks in BLOCK_COUNTS {
+        for sizes in [[1; 16].as_slice(), &[1], &[24]] {
+            let (medium, log) = filled(blocks, sizes);
+            assert_eq!(log.len(), (16 * blocks - 1) * sizes.len());
+            check(&medium, &log);
         }
-        assert_eq!(log.len(), 255 * sizes.len());
-        check(&medium, &log);
     }
+}
+
+/// A base and pages of groups of these sizes on all other pages: the medium,
+/// and its log. Pages of one group stand in falling order.
+fn filled(blocks: usize, sizes: &[usize]) -> (Vec<u8>, Vec<Vec<Entry>>) {
+    let (mut entries, pages) = (Entries::default(), BLOCK_PAGES * blocks);
+    let (mut medium, mut log) = (blank(blocks), Vec::new());
+    put_page(&mut medium, 0, &lay_page(BASE, 3, 1, &[]));
+    for nth in 1..pages {
+        let groups = entries.groups(sizes);
+        let parts: Vec<&[Entry]> = groups.iter().map(Vec::as_slice).collect();
+        let bytes = match sizes.len() {
+            1 => lay_page(NODES, 3, nth as u64 + 1, parts[0]),
+            _ => lay_gathered(nth as u64 + 1, &parts),
+        };
+        let page = if sizes.len() == 1 { pages - nth } else { nth };
+        put_page(&mut medium, page, &bytes);
+        log.extend(groups);
+    }
+    (medium, log)
 }
 
 /// Every way to divide up to ten entries of a page into groups: the number of
@@ -297,7 +313,17 @@ impl Day {
 /// Appends, flushes, commits and a collection, cut and finished.
 #[test]
 fn a_day_of_calls() {
-    let (medium, state) = formatted(16);
+    for blocks in [16, 17, 64, 255, 256] {
+        a_day_on(blocks);
+    }
+}
+
+/// On many blocks the day begins near the last one, so that the head goes round.
+fn a_day_on(blocks: usize) {
+    let (medium, mut state) = formatted(blocks);
+    if blocks > 16 {
+        (state.head, state.next_page) = (blocks - 2, 16);
+    }
     let mut day = Day { medium, state, entries: Entries::default(), log: Vec::new() };
     for size in [1, 24, 25, 96] {
         day.append(size);
@@ -326,7 +352,7 @@ fn a_day_of_calls() {
     let movable = |&block: &usize| {
         collectible(&day.medium, &day.state, block) && live_count(&day.state, block) > 0
     };
-    let block = (0..16).find(movable).expect("a block with nodes to move");
+    let block = (0..blocks).find(movable).expect("a block with nodes to move");
     begin_collect(&day.medium, &mut day.state, block).expect("collect");
     finish(&mut day.medium, &mut day.state);
     day.check();
@@ -387,7 +413,8 @@ fn refusals_leave_the_lists() {
     for number in 1..=6 {
         for way in 0..ways(number) {
             let medium = refused_medium(&mut random, number, way);
-            let lengths = [0; 3].map(|_| random.one_of(&[0, 1, 6144]));
+            let most = most_changes(&medium);
+            let lengths = [0; 3].map(|_| random.one_of(&[0, 1, most]));
             for log_into in BOTH {
                 let (answer, lists) = read_out(log_into, &medium, lengths);
                 assert_eq!(answer, refused(number));

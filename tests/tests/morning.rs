@@ -90,13 +90,17 @@ fn prints_what_the_second_implementation_prints() {
     }
 }
 
-/// No byte, too few, and too many: whatever they are.
+/// No byte, too few, and too many: whatever they are. From 69632 to 1048576
+/// bytes these are media that recovery takes.
 #[test]
 fn a_length_that_is_not_allowed() {
     let journal = at_the_ends(&mut Random::new(49));
-    for length in [0, 1, 12288, 16383, 65535, 65537, 65792, 69632, 131072] {
+    let few = [0, 1, 12288, 16383, 65535, 65537, 65792];
+    let many = [69632, 131072, 262144, 1044480, 1048576, 1052672];
+    for length in few.into_iter().chain(many) {
         let mut medium = journal.clone();
         medium.resize(length, 0xFF);
+        assert_eq!(reader::recover(&medium).is_ok(), many[..5].contains(&length));
         assert_eq!(printed(&medium), "refused 1\n", "{length} bytes");
     }
 }

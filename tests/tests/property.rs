@@ -4,6 +4,7 @@
 mod common;
 
 use common::*;
+use journal_tests::grown::BLOCK_COUNTS;
 use journal_tests::history::History;
 use journal_tests::random::{self, Life, Random};
 use journal_tests::reader::*;
@@ -52,12 +53,13 @@ fn check_state_kept(medium: &[u8], state: &State, recovered: &State) {
     assert_eq!(&closed, recovered);
 }
 
-/// Runs lives of so many events; how often each thing happened.
-fn run(seed: u64, lives: usize, events: usize) -> BTreeMap<String, usize> {
+/// Runs lives on so many blocks, each with so many events; how often each thing
+/// happened.
+fn run(seed: u64, lives: impl Iterator<Item = (usize, usize)>) -> BTreeMap<String, usize> {
     let mut random = Random::new(seed);
     let mut happened = BTreeMap::new();
-    for _ in 0..lives {
-        let mut life = Life::new(&mut random);
+    for (blocks, events) in lives {
+        let mut life = Life::on(&mut random, blocks);
         for _ in 0..events {
             let action = life.next_action(&mut random);
             let given = Given::to(&life);
@@ -84,7 +86,9 @@ const OFTEN: [&str; 12] = [
 
 #[test]
 fn log_and_settings_are_the_history() {
-    let happened = run(3, 150, 1000);
+    let few = (4..=16).cycle().take(150).map(|blocks| (blocks, 1000));
+    let many = BLOCK_COUNTS.into_iter().cycle().take(28).map(|blocks| (blocks, 250));
+    let happened = run(3, few.chain(many));
     for (name, times) in &happened {
         println!("{times:7} {name}");
     }

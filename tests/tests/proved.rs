@@ -26,9 +26,10 @@ fn agree(random: &mut Random, medium: &[u8]) -> u8 {
     let changes = reader::replay(medium).map_or(0, |replay| replay.log_length());
     // One, two or all three of the lists are too short, if the log is not empty.
     let (which, short) = (random.from_to(1, 7), random.below(changes.max(1)));
-    let too_short = [1, 2, 4].map(|list| if which & list != 0 { short } else { 6144 });
+    let most = reader::most_changes(medium);
+    let too_short = [1, 2, 4].map(|list| if which & list != 0 { short } else { most });
     let longer = [changes + 3, changes + 1, changes + 2];
-    for lengths in [[6144; 3], [changes; 3], longer, too_short] {
+    for lengths in [[most; 3], [changes; 3], longer, too_short] {
         let [proved, second] = logs(medium, lengths);
         assert!(proved == second, "{lengths:?}: {:?}, not {:?}", proved.0, second.0);
     }
@@ -82,14 +83,16 @@ fn on_each_way_to_be_refused() {
 #[test]
 fn on_a_medium_with_each_bit_of_some_pages_turned() {
     let mut random = Random::new(44);
-    let mut medium = random::medium(&mut random);
-    let pages = medium.len() / 256;
-    for _ in 0..3 {
-        let page = random.below(pages);
-        for bit in 0..2048 {
-            medium[256 * page + bit / 8] ^= 1 << (bit % 8);
-            agree(&mut random, &medium);
-            medium[256 * page + bit / 8] ^= 1 << (bit % 8);
+    // On many blocks only every so many bits.
+    for (blocks, every) in [(4, 1), (16, 1), (17, 31), (256, 127)] {
+        let mut medium = random::medium_on(&mut random, blocks);
+        for _ in 0..2 {
+            let page = random.below(16 * blocks);
+            for bit in (0..2048).step_by(every) {
+                medium[256 * page + bit / 8] ^= 1 << (bit % 8);
+                agree(&mut random, &medium);
+                medium[256 * page + bit / 8] ^= 1 << (bit % 8);
+            }
         }
     }
 }
@@ -97,7 +100,8 @@ fn on_a_medium_with_each_bit_of_some_pages_turned() {
 #[test]
 fn on_bytes_of_any_length() {
     let mut random = Random::new(45);
-    for length in (0..300).chain([4095, 4096, 16383, 16384, 16385, 65536, 69632]) {
+    let many = [65535, 65536, 65537, 69632, 1044480, 1048575, 1048576, 1048577, 1052672];
+    for length in (0..300).chain([4095, 4096, 16383, 16384, 16385]).chain(many) {
         let mut medium = vec![0u8; length];
         random.fill(&mut medium);
         agree(&mut random, &medium);
@@ -162,10 +166,12 @@ fn an_operation_code_that_names_none_is_7_after_1() {
 
 #[test]
 fn pages_are_parts_of_the_medium() {
-    let bytes = vec![0xFF; 16384];
-    for length in [0, 1, 255, 256, 257, 4095, 16384] {
+    let bytes = vec![0xFF; 1052672];
+    let few = [0, 1, 15, 63, 64, 255, 256, 257, 4079, 4080, 4095, 4096, 4111, 4112];
+    let ends = [1 << 24, usize::MAX / 256, usize::MAX / 256 + 1, usize::MAX];
+    for length in [0, 1, 255, 256, 257, 4095, 16384, 65536, 69632, 1044480, 1048576, 1052672] {
         let medium = &bytes[..length];
-        for p in [0, 1, 15, 63, 64, usize::MAX / 256, usize::MAX / 256 + 1, usize::MAX] {
+        for p in few.into_iter().chain(ends) {
             let (page, expected) = (proved::page(medium, p), reader::page(medium, p));
             assert_eq!(page.len(), expected.len());
             assert!(page.is_empty() || std::ptr::eq(page, expected));

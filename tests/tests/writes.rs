@@ -15,6 +15,7 @@ use common::{
     blank, circumstances, expected_read_out, happening, lists, pending_name, read_out, refused,
     valves, Given, EMPTY,
 };
+use journal_tests::grown::{some_blocks, BLOCK_COUNTS};
 use journal_tests::proved::{self, VjCells, VjState};
 use journal_tests::random::{self, cut_step, Action, Life, Outcome, Random, Reading};
 use journal_tests::reader::{self, Entry, Refused, WordAt, BLOCK_BYTES, PAGE_BYTES, REMOVAL};
@@ -50,14 +51,14 @@ impl Journal {
     /// Steps until the pending operation is finished; what each touched.
     fn finish(&mut self) -> Vec<Touched> {
         let mut touched = Vec::new();
-        while touched.len() < 40 {
+        while touched.len() < 300 {
             let step = self.step().expect("a step");
             touched.push(step.touched);
             if step.finished {
                 return touched;
             }
         }
-        panic!("no operation takes 40 steps");
+        panic!("no operation takes 300 steps");
     }
 
     fn begin_append(&mut self, entries: &[(u16, u64)]) -> Result<(), Refused> {
@@ -98,7 +99,8 @@ impl Journal {
 
     /// The log: each change's group number, its key and its word as stored.
     fn log(&self) -> Vec<(u32, u16, u64)> {
-        let (answer, lists) = read_out(proved::log_into, &self.medium, [6144; 3]);
+        let most = reader::most_changes(&self.medium);
+        let (answer, lists) = read_out(proved::log_into, &self.medium, [most; 3]);
         let changes = lists.groups.into_iter().zip(lists.keys).zip(lists.words);
         let changes = changes.map(|((group, key), word)| (group, key, word));
         changes.take(answer.expect("the log")).collect()
@@ -278,9 +280,9 @@ struct Twins {
 }
 
 impl Twins {
-    fn new(random: &mut Random) -> Twins {
-        let life = Life::new(random);
-        Twins { medium: life.medium.clone(), buffer: life.buffer, life, state: None }
+    fn of(life: Life) -> Twins {
+        let state = life.state.as_ref().map(VjState::from);
+        Twins { medium: life.medium.clone(), buffer: life.buffer, life, state }
     }
 
     /// Both get so few serials.
@@ -468,11 +470,11 @@ fn same<T: PartialEq + Debug>(
     second.map(drop)
 }
 
-/// One list of calls and cuts, compared event by event.
-fn live(seed: u64, events: u64, counts: &mut Counts) {
+/// One list of calls and cuts on so many blocks, compared event by event.
+fn live(seed: u64, blocks: usize, events: u64, counts: &mut Counts) {
     let _seed = Seed(seed);
     let mut random = Random::new(seed);
-    let mut twins = Twins::new(&mut random);
+    let mut twins = Twins::of(Life::on(&mut random, blocks));
     let mut since_cut = u64::MAX;
     for _ in 0..events {
         if twins.life.just_formatted() && random.one_in(4) {
@@ -483,6 +485,9 @@ fn live(seed: u64, events: u64, counts: &mut Counts) {
         let outcome = twins.act(&action);
         count(counts, happening(&action, outcome));
         if let Some(name) = circumstances(&given, &action, outcome) {
+            count(counts, name);
+        }
+        if let Some(name) = beyond_16_blocks(outcome) {
             count(counts, name);
         }
         let cut = matches!(outcome, Outcome::Cut { .. });
@@ -496,6 +501,22 @@ fn live(seed: u64, events: u64, counts: &mut Counts) {
             count(counts, "cut soon after a cut");
         }
         since_cut = if cut { 0 } else { since_cut.saturating_add(1) };
+    }
+}
+
+/// Which page or block a step touched, where a medium of 16 blocks has none such.
+fn beyond_16_blocks(outcome: Outcome) -> Option<&'static str> {
+    let (touched, cut) = match outcome {
+        Outcome::Stepped(step) => (step.touched, false),
+        Outcome::Cut { struck: Some(touched), .. } => (touched, true),
+        _ => return None,
+    };
+    match touched {
+        Touched::Page(256..) if cut => Some("cut inside a page from 256 on"),
+        Touched::Block(16..) if cut => Some("cut inside a block from 16 on"),
+        Touched::Page(256..) => Some("page from 256 on"),
+        Touched::Block(16..) => Some("block from 16 on"),
+        _ => None,
     }
 }
 
@@ -531,24 +552,71 @@ fn lists_of_calls_and_cuts() {
     let first = variable("JOURNAL_SEED").unwrap_or(1);
     let (mut counts, start) = (Counts::new(), Instant::now());
     for life in 0..events.div_ceil(LIFE) {
-        live(first + life, LIFE.min(events - life * LIFE), &mut counts);
+        let blocks = 4 + (first + life) as usize % 13;
+        live(first + life, blocks, LIFE.min(events - life * LIFE), &mut counts);
     }
-    for (name, times) in &counts {
-        println!("{times:7} {name}");
-    }
+    print_counts(&counts);
     let seconds = start.elapsed().as_secs_f64();
     println!("{events} events in {seconds:.1} s: {:.0} a second", events as f64 / seconds);
-    // A step that is due can be made, and what is buffered can be flushed.
+    no_step_due_is_refused(&counts);
+    for (least, names) in HAPPENINGS.iter().filter(|_| events >= EVENTS) {
+        check_counts(&counts, *least, names);
+    }
+}
+
+/// Fewer and shorter lists on each of the block counts; most of them begin with
+/// a journal that was written for long.
+#[test]
+fn lists_on_many_blocks() {
+    let events = variable("JOURNAL_EVENTS").unwrap_or(EVENTS) / 250;
+    let first = variable("JOURNAL_SEED").unwrap_or(1);
+    let mut all = Counts::new();
+    for blocks in BLOCK_COUNTS {
+        let mut counts = Counts::new();
+        (first..first + 8).for_each(|seed| live(seed, blocks, events, &mut counts));
+        no_step_due_is_refused(&counts);
+        // Of 17 blocks only the last is such a block.
+        let least = if blocks > 17 { 20 } else { 1 };
+        if blocks > 16 && events >= 400 {
+            check_counts(&counts, least, &["page from 256 on", "block from 16 on"]);
+        }
+        counts.into_iter().for_each(|(name, times)| *all.entry(name).or_insert(0) += times);
+    }
+    print_counts(&all);
+    if events >= 400 {
+        check_counts(&all, 5, MANY);
+    }
+}
+
+/// What must happen in the lists on many blocks.
+#[rustfmt::skip]
+const MANY: &[&str] = &[
+    "append finished", "commit finished", "collection finished", "flush finished",
+    "formatting finished", "recover", "collection of no page", "collection of several pages",
+    "erase before a page", "cut inside the erase before a page", "append refused 13",
+    "cut inside a page from 256 on", "cut inside a block from 16 on",
+];
+
+fn print_counts(counts: &Counts) {
+    for (name, times) in counts {
+        println!("{times:7} {name}");
+    }
+}
+
+/// Each of these happened at least so often.
+fn check_counts(counts: &Counts, least: usize, names: &[&str]) {
+    for &name in names {
+        let times = counts.get(name).copied().unwrap_or(0);
+        assert!(times >= least, "{times} times: {name}");
+    }
+}
+
+/// A step that is due can be made, and what is buffered can be flushed.
+fn no_step_due_is_refused(counts: &Counts) {
     for (call, numbers) in [("step", &[6, 7, 14, 16][..]), ("flush", &[7, 11, 12, 13, 14])] {
         for number in numbers {
             let name = format!("{call} refused {number}");
             assert!(!counts.contains_key(&name), "{name}");
-        }
-    }
-    for (least, names) in HAPPENINGS.iter().filter(|_| events >= EVENTS) {
-        for &name in *names {
-            let times = counts.get(name).copied().unwrap_or(0);
-            assert!(times >= *least, "{times} times: {name}");
         }
     }
 }
@@ -765,12 +833,12 @@ fn some_block(random: &mut Random, medium: &[u8], given: &VjState) -> usize {
     let state = given.meaning().filter(|state| reader::check_state(medium, state).is_ok());
     let most_live = state.and_then(|state| {
         let collectible = |block: &usize| reader::collectible(medium, &state, *block);
-        (0..16).filter(collectible).max_by_key(|&block| reader::live_count(&state, block))
+        (0..state.blocks).filter(collectible).max_by_key(|&block| reader::live_count(&state, block))
     });
     match most_live {
         Some(block) if !random.one_in(3) => block,
-        _ if random.one_in(8) => random.one_of(&[16, 255, 1 << 32, usize::MAX / 16, usize::MAX]),
-        _ => random.below(17),
+        _ if random.one_in(8) => random.one_of(&[16, 255, 256, 1 << 32, usize::MAX]),
+        _ => random.below(medium.len() / BLOCK_BYTES + 1),
     }
 }
 
@@ -923,7 +991,7 @@ fn damage_fields(random: &mut Random, state: &mut VjState) {
 
 /// A state with every field by chance.
 fn any_state(random: &mut Random) -> VjState {
-    let mut state = VjState::from(&State::at_format(random.from_to(4, 16)));
+    let mut state = VjState::from(&State::at_format(some_blocks(random)));
     state.head.blocks = some_number(random) as usize;
     state.head.block = some_number(random) as usize;
     state.head.next = some_number(random) as usize;
@@ -944,8 +1012,8 @@ fn any_state(random: &mut Random) -> VjState {
 fn any_bytes(random: &mut Random) -> Vec<u8> {
     let length = match random.below(4) {
         0 => random.below(70_000),
-        1 => random.one_of(&[0, 1, 256, 4096, 12288, 16383, 16385, 65537, 69632]),
-        _ => random.from_to(4, 16) * BLOCK_BYTES,
+        1 => random.one_of(&[0, 1, 256, 4096, 12288, 16383, 16385, 65537, 1048577, 1052672]),
+        _ => some_blocks(random) * BLOCK_BYTES,
     };
     let mut bytes = vec![random.one_of(&[0, 0xFF]); length];
     if random.one_in(2) {
@@ -979,7 +1047,8 @@ fn any_medium_any_state_and_any_lists() {
         if random.one_in(2) {
             towards_a_collection(&mut random, &mut life);
         }
-        for _ in 0..30 {
+        let many = life.medium.len() > 16 * BLOCK_BYTES;
+        for _ in 0..if many { 8 } else { 30 } {
             let lent = some_variant(&mut random, &life);
             answers.all(&mut random, &lent);
         }

@@ -15,7 +15,7 @@ use Rattle.state.specs.declared.State.{State}
 use Rattle.state.specs.State.{meaning}
 use Rattle.read.specs.Answers.{surveyedOf}
 use Rattle.readings.specs.Readings.{surveyOf}
-use Rattle.c_answers.specs.Forms.{IsPage, joined, joinedIn, surveyBy}
+use Rattle.c_answers.specs.Forms.{IsPage, mostCounts, joined, joinedIn, surveyBy}
 
 -- ---- pages
 
@@ -31,24 +31,24 @@ page-out m p h = let l : length m < 256 * p + 256 = omega arith in record { byte
 
 -- the first i counts stand in xs
 pub record JoinedTo (rows : List (List ℕ)) (xs : List ℕ) (i : ℕ) : Type 0 where
-  pub long : length xs ≡ 48
+  pub long : length xs ≡ mostCounts
   pub so : (k : ℕ) → k < i → getD xs k 0 ≡ getD (getD rows (k / 3) []) (k % 3) 0
 
-pub joined-start : (rows : List (List ℕ)) (xs : List ℕ) → length xs ≡ 48 → JoinedTo rows xs 0
+pub joined-start : (rows : List (List ℕ)) (xs : List ℕ) → length xs ≡ mostCounts → JoinedTo rows xs 0
 joined-start rows xs l = record { long = l; so = λ i h. absurd (omega arith) }
 
-pub joined-next : (rows : List (List ℕ)) (xs : List ℕ) (i : ℕ) → i < 48 → JoinedTo rows xs i → JoinedTo rows (set xs i (getD (getD rows (i / 3) []) (i % 3) 0)) (i + 1)
+pub joined-next : (rows : List (List ℕ)) (xs : List ℕ) (i : ℕ) → i < mostCounts → JoinedTo rows xs i → JoinedTo rows (set xs i (getD (getD rows (i / 3) []) (i % 3) 0)) (i + 1)
 joined-next rows xs i h t = record { long = length-set xs i (getD (getD rows (i / 3) []) (i % 3) 0) ∙ t .long; so = λ k l. go k l (decLt k i) }
   where
     go : (k : ℕ) → k < i + 1 → Dec (k < i) → getD (set xs i (getD (getD rows (i / 3) []) (i % 3) 0)) k 0 ≡ getD (getD rows (k / 3) []) (k % 3) 0
     go k l (yes g) = getD-set-other xs i k (getD (getD rows (i / 3) []) (i % 3) 0) 0 (λ x. omega arith) ∙ t .so k g
     go k l (no g) = let x : k ≡ i = omega arith in rw x (getD-set-same xs i (getD (getD rows (i / 3) []) (i % 3) 0) 0 (omega (arith, t .long)))
 
-pub joined-end : (rows : List (List ℕ)) (xs : List ℕ) (i : ℕ) → 48 ≤ i → JoinedTo rows xs i → xs ≡ joined rows
+pub joined-end : (rows : List (List ℕ)) (xs : List ℕ) (i : ℕ) → mostCounts ≤ i → JoinedTo rows xs i → xs ≡ joined rows
 unfolding joined
 joined-end rows xs i h t =
-    ext-getD 0 xs (table 48 (λ k. getD (getD rows (k / 3) []) (k % 3) 0)) (t .long ∙ sym (length-table (λ k. getD (getD rows (k / 3) []) (k % 3) 0) 0 48))
-    (λ k l. t .so k (omega (arith, t .long)) ∙ sym (get-table (λ j. getD (getD rows (j / 3) []) (j % 3) 0) 0 48 k (omega (arith, t .long))))
+    ext-getD 0 xs (table mostCounts (λ k. getD (getD rows (k / 3) []) (k % 3) 0)) (t .long ∙ sym (length-table (λ k. getD (getD rows (k / 3) []) (k % 3) 0) 0 mostCounts))
+    (λ k l. t .so k (omega (arith, t .long)) ∙ sym (get-table (λ j. getD (getD rows (j / 3) []) (j % 3) 0) 0 mostCounts k (omega (arith, t .long))))
 
 survey-joined : (n : ℕ) (rows : List (List ℕ)) → surveyBy (record { number = n; counts = joined rows }) ≡ joinedIn (surveyedOf n rows)
 unfolding surveyBy joinedIn

@@ -7,7 +7,7 @@ use lib.ListN.{length, getD}
 use lib.Dec.{eqb, leb}
 use Rattle.lists.specs.Lists.{table}
 use Rattle.codec.specs.Codec.{part}
-use Rattle.flash.specs.Medium.{views, pageAt}
+use Rattle.flash.specs.Medium.{mostBlocks, views, pageAt}
 use Rattle.state.specs.declared.State.{State}
 use Rattle.state.specs.State.{meaning}
 use Rattle.readings.specs.Readings.{Survey, counts, surveyOf}
@@ -22,10 +22,14 @@ pub record IsPage (m : List ℕ) (p : ℕ) (r : VjPart) : Type 0 where
   pub start : r .offset ≡ cond (leb (256 * p + 256) (length m)) (256 * p) 0
   pub size : r .length ≡ cond (leb (256 * p + 256) (length m)) 256 0
 
--- ---- the survey: sixteen rows of three counts, one row after another
+-- ---- the survey: a row of three counts for each block, one row after another
+
+-- how many counts they are
+abbrev pub mostCounts : ℕ
+mostCounts = 3 * mostBlocks
 
 unfoldable pub joined : List (List ℕ) → List ℕ
-joined rows = table 48 (λ i. getD (getD rows (i / 3) []) (i % 3) 0)
+joined rows = table mostCounts (λ i. getD (getD rows (i / 3) []) (i % 3) 0)
 
 pub data Joined : Type 0 where
   turnedBack : ℕ → Joined

@@ -10,11 +10,14 @@ pub struct VjPart {
     pub length: usize,
 }
 
-// 0 and the survey, its sixteen rows of three counts one after another, or a refusal's number.
+// How many counts the survey has: a row of three for each block.
+pub const COUNTS: usize = 3 * flash::BLOCKS;
+
+// 0 and the survey, its rows of three counts one after another, or a refusal's number.
 #[repr(C)]
 pub struct VjSurvey {
     pub number: u8,
-    pub counts: [u16; 48],
+    pub counts: [u16; COUNTS],
 }
 
 // Where page p stands in the medium; nothing at 0 where the medium lacks one of its bytes.
@@ -33,13 +36,13 @@ pub fn page_place(m: &[u8], p: usize) -> VjPart
     }
 }
 
-// Sixteen rows of three counts, one row after another.
-fn joined(rows: [[u16; 3]; 16]) -> [u16; 48]
+// Rows of three counts, one row after another.
+fn joined(rows: [[u16; 3]; flash::BLOCKS]) -> [u16; COUNTS]
     ensures { λ r. ⌜ r ≡ joined-of rows ⌝ }
 {
-    let mut all = [0u16; 48];
+    let mut all = [0u16; COUNTS];
     let mut i: usize = 0;
-    while i < 48 {
+    while i < COUNTS {
         let row = rows[i / 3];
         all[i] = row[i % 3];
         i += 1;

@@ -146,12 +146,23 @@ fn groups() {
     );
 }
 
+// Condition 1 for a medium of n bytes.
+fn rule_1(name: &[u8], n: usize) {
+    if blocks::size_ok(n) {
+        show::answer(name, 0);
+        return;
+    }
+    show::answer(name, 1);
+}
+
 // The length of a medium in bytes.
 fn lengths() {
-    let longest = begin::format(&[255u8; 65536]);
-    show::answer(b"format of 65536 bytes: ", longest.number);
-    let longer = begin::format(&[255u8; 69632]);
-    show::answer(b"format of 69632 bytes: ", longer.number);
+    let sixteen = begin::format(&[255u8; 65536]);
+    show::answer(b"format of 65536 bytes: ", sixteen.number);
+    let one_more = begin::format(&[255u8; 69632]);
+    show::answer(b"format of 69632 bytes: ", one_more.number);
+    rule_1(b"condition 1 for 1048576 bytes: ", 1048576);
+    rule_1(b"condition 1 for 1052672 bytes: ", 1052672);
 }
 
 // 30 entries, cut after their first page.

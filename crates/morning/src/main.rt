@@ -1,4 +1,5 @@
-// Reads one medium from standard input and prints the log, then each valve that is set with its word; or `refused` and the number.
+// Reads one medium of at most 65536 bytes from standard input and prints the log, then each valve that is set with its word; or `refused` and
+// the number, 1 for more bytes.
 
 fn main() {
     let mut b = io::large_buffer();

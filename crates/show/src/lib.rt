@@ -38,23 +38,29 @@ pub fn answer(call: &[u8], number: u8) {
     refused(number);
 }
 
-// The places for the longest log: 24 entries on each of 256 pages.
-fn no_keys() -> [u16; 6144]
+// The bytes of the longest medium that the programs take: 16 blocks.
+const BYTES: usize = 65536;
+
+// The places for its longest log: 24 entries on each page.
+const PLACES: usize = BYTES / 256 * 24;
+
+// Such places: for keys, words and the numbers of groups.
+fn no_keys() -> [u16; PLACES]
     ensures { λ r. ⌜ length r ≡ 6144 ⌝ }
 {
-    [0; 6144]
+    [0; PLACES]
 }
 
-fn no_words() -> [u64; 6144]
+fn no_words() -> [u64; PLACES]
     ensures { λ r. ⌜ length r ≡ 6144 ⌝ }
 {
-    [0; 6144]
+    [0; PLACES]
 }
 
-fn no_groups() -> [u32; 6144]
+fn no_groups() -> [u32; PLACES]
     ensures { λ r. ⌜ length r ≡ 6144 ⌝ }
 {
-    [0; 6144]
+    [0; PLACES]
 }
 
 // One change: the number of its group, then a valve and its word, or `-` where it was removed.
@@ -114,8 +120,12 @@ fn settings(m: &[u8], index: Cells)
     }
 }
 
-// The log and the settings of a medium, or `refused` and the number.
+// The log and the settings of a medium, or `refused` and the number; 1 for a medium that is too long for the programs.
 pub fn medium(m: &[u8]) {
+    if BYTES < m.len() {
+        refused(1);
+        return;
+    }
     let r = recover::recover(m);
     let number = r.number;
     if number != 0 {

@@ -30,7 +30,7 @@ pub const BUFFER: u64 = 8;
 // A flush begins.
 pub const FLUSH: u64 = 9;
 
-// A code that is 10 more is the call with its steps until the operation is over, 20 at most: formatting of 16 blocks takes 17. Here formatting.
+// A code that is 10 more is the call with its steps until the operation is over, 20 at most, for media of 16 blocks at most: their formatting takes 17. Here formatting.
 pub const FORMATTED: u64 = 11;
 
 // An append.

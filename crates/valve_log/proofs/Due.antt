@@ -20,7 +20,7 @@ use Rattle.page.specs.Rules.{lawful}
 use Rattle.page.specs.Buffer.{groupsPage}
 use Rattle.page.proofs.Buffer.{narrow-groups}
 use Rattle.page.proofs.Written.{Narrow}
-use Rattle.flash.specs.Medium.{seen}
+use Rattle.flash.specs.Medium.{mostPages, seen}
 use Rattle.flash.proofs.Cuts.{CutViews}
 use Rattle.blocks.specs.Blocks.{sizeOk, reachesBase, oldBlock, newHead, pageDue, collectible}
 use Rattle.nodes.specs.Nodes.{inBlock, sound, words, live, wordAt}
@@ -171,7 +171,7 @@ unfolding counted
 counted-collect h u e = rw e
 
 module _ (v : List View) (s : Held) (h : History) {ch : List Placed} {gs : List Group} (S : Sound v (h .log) (h .settings) (s .head .base) ch gs (s .index)) (ser : s .head .serial ≡ s .head .base + length ch) (facts : Fits v s)
-    (texts : SmallWords v) (few : length v ≤ 4096) (bs : List ℕ) (L : Lent s bs h) where
+    (texts : SmallWords v) (few : length v ≤ mostPages) (bs : List ℕ) (L : Lent s bs h) where
   move-good : (b : ℕ) (moves : List Place) → h .buffered ≡ [] → h .underWay ≡ collecting → ((y : Cell) → In y moves → In y (s .index)) → 1 ≤ length moves → length moves ≤ 24 → Good v s bs h (moveStep v s b moves)
   unfolding moveStep
   move-good b moves nb u mem many most =
@@ -268,7 +268,7 @@ aligned : {v : List View} {log : List (List Entry)} {settings : List Cell} {b : 
 aligned b′ idx′ p q S = rw (p, q) S
 
 -- the step that is due
-pub step-good : (n : ℕ) (v : List View) (s : Held) (b : List ℕ) (h : History) → SmallWords v → length v ≤ 4096 → Coupled v (some s) h → Lent s b h → Good v s b h (stepOf n v s b)
+pub step-good : (n : ℕ) (v : List View) (s : Held) (b : List ℕ) (h : History) → SmallWords v → length v ≤ mostPages → Coupled v (some s) h → Lent s b h → Good v s b h (stepOf n v s b)
 unfolding stepOf
 step-good n v s b h texts few c L =
     checked-cases (Good v s b h) Step.refused (need 1 (sizeOk n) ∷ need 7 (fitWith v s b) ∷ need 9 (not (isIdle (s .pending))) ∷ []) (erasedFirst v s (due v s (bufferedIn b) (s .pending))) (refused-good v s b h)

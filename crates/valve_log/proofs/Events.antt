@@ -18,7 +18,7 @@ use Rattle.lists.proofs.Laws.{and-l, and-r, and-both, true-false, every-at, tes
 use Rattle.page.specs.Pages.{Page, View, clean, spoilt, whole, isWhole, pagesFor, changesOf}
 use Rattle.page.specs.Buffer.{holding}
 use Rattle.page.proofs.Berger.{blanked}
-use Rattle.flash.specs.Medium.{views, seen, programmed, erased}
+use Rattle.flash.specs.Medium.{mostBlocks, mostPages, views, seen, programmed, erased}
 use Rattle.flash.specs.Cuts.{CutProgram, CutErase}
 use Rattle.flash.proofs.Laws.{length-views, clean-in}
 use Rattle.flash.proofs.Steps.{AllGuarded, program-length, program-guarded, program-views, erase-length, erase-guarded, erase-views, length-cleaned, seen-cleaned, seen-uncleaned}
@@ -61,13 +61,13 @@ Follows h t = Upheld (t .after) (tell h (t .told))
 pub record Sized (n : ℕ) : Type 0 where
   pub even : n % 4096 ≡ 0
   pub low : 4 ≤ n / 4096
-  pub high : n / 4096 ≤ 16
+  pub high : n / 4096 ≤ mostBlocks
 
 pub sized : (n : ℕ) → sizeOk n ≡ true → Sized n
 unfolding sizeOk
-sized n e = record { even = eqb-true (n % 4096) 0 (every-at 0 _ e); low = leb-true 4 (n / 4096) (every-at 1 _ e); high = leb-true (n / 4096) 16 (every-at 2 _ e) }
+sized n e = record { even = eqb-true (n % 4096) 0 (every-at 0 _ e); low = leb-true 4 (n / 4096) (every-at 1 _ e); high = leb-true (n / 4096) mostBlocks (every-at 2 _ e) }
 
-pub few-views : (m : List ℕ) → sizeOk (length m) ≡ true → length (views m) ≤ 4096
+pub few-views : (m : List ℕ) → sizeOk (length m) ≡ true → length (views m) ≤ mostPages
 few-views m e = let s = sized (length m) e in omega (arith, length-views m, s .high, s .even)
 
 -- ---- what conditions 24 and 10 say of the buffered groups

@@ -20,7 +20,7 @@ use Rattle.page.specs.Rules.{mayCarry, leastCount, serialOk, ruled, lawful}
 use Rattle.page.specs.Layout.{used, entryAt, decode}
 use Rattle.page.proofs.Written.{Narrow}
 use Rattle.page.proofs.Berger.{whole-view}
-use Rattle.flash.specs.Medium.{pageAt, views, seen}
+use Rattle.flash.specs.Medium.{mostBlocks, pageAt, views, seen}
 use Rattle.flash.proofs.Laws.{seen-views}
 use Rattle.flash.proofs.Steps.{bytes-page}
 use Rattle.nodes.specs.Nodes.{setsValves, entryIn, nodeIn, wordFor, wordAt, words}
@@ -177,7 +177,7 @@ small-words v (x ∷ l) w h =
     small-cons (cell (x .key) (valueOr 0 (wordAt v x))) (words v l) (omega arith) (w x) (small-words v l w (all-tail (λ (y : Cell). ltb (y .key) 32768) x l h))
 
 -- places of an index that condition 7 passes
-pub small-places : (b : ℕ) (l : List Place) → b ≤ 4096 → all (λ x. ltb (x .key) 32768) l ≡ true → all (λ x. ltb (x .val) (384 * b)) l ≡ true → Small l
+pub small-places : (b : ℕ) (l : List Place) → b ≤ mostBlocks → all (λ x. ltb (x .key) 32768) l ≡ true → all (λ x. ltb (x .val) (384 * b)) l ≡ true → Small l
 small-places b [] m h k = small-nil
 small-places b (x ∷ l) m h k =
     let p : x .key < 32768 = ltb-true (x .key) 32768 (all-head (λ (y : Cell). ltb (y .key) 32768) x l h) in

@@ -1,6 +1,7 @@
 //! Shorthands of the tests.
 #![allow(dead_code)]
 
+pub use journal_tests::calls::EMPTY;
 use journal_tests::random::{Action, Life, Outcome};
 use journal_tests::reader::*;
 use journal_tests::writer::{self, Pending, State, Step, Touched};
@@ -12,9 +13,6 @@ pub fn refused<T>(number: u8) -> Result<T, Refused> {
 pub fn blank(blocks: usize) -> Vec<u8> {
     vec![0xFF; blocks * BLOCK_BYTES]
 }
-
-/// An empty buffer.
-pub const EMPTY: [u8; PAGE_BYTES] = [0xFF; PAGE_BYTES];
 
 pub fn set_entry(valve: u16, word: u64) -> Entry {
     Entry { key: valve, word }

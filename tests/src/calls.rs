@@ -1,0 +1,101 @@
+//! The calls of either implementation under one name, for tests and times that
+//! are made of both.
+
+use crate::proved::{self, VjState};
+use crate::reader::{self, Refused, State, WordAt, MAX_BLOCKS, PAGE_BYTES};
+use crate::writer::{self, Step};
+use std::fmt::Debug;
+
+/// An empty buffer.
+pub const EMPTY: [u8; PAGE_BYTES] = [0xFF; PAGE_BYTES];
+
+/// The proved library.
+pub struct Proved;
+
+/// The second implementation.
+pub struct Second;
+
+/// The calls of one implementation. Each has the name, the arguments and the
+/// answer that it has there.
+#[rustfmt::skip]
+pub trait Calls {
+    type State: Clone + PartialEq + Debug;
+    /// A state of the second implementation as this one has it.
+    fn of(state: &State) -> Self::State;
+    /// The state in the second implementation's terms.
+    fn meaning(state: &Self::State) -> State;
+
+    fn recover(m: &[u8]) -> Result<Self::State, Refused>;
+    fn log_into(m: &[u8], k: &mut [u16], w: &mut [u64], g: &mut [u32]) -> Result<usize, Refused>;
+    fn open(m: &[u8], state: &Self::State, valve: u16) -> Result<u64, Refused>;
+    fn word_at(m: &[u8], state: &Self::State, b: &[u8], valve: u16) -> Result<WordAt, Refused>;
+    fn pick(m: &[u8], state: &Self::State) -> Result<Option<usize>, Refused>;
+    fn survey(m: &[u8], state: &Self::State) -> Result<[[u32; 3]; MAX_BLOCKS], Refused>;
+    fn count_available(m: &[u8], state: &Self::State) -> Result<usize, Refused>;
+
+    fn format(m: &[u8]) -> Result<Self::State, Refused>;
+    fn append(m: &[u8], state: &mut Self::State, b: &[u8], k: &[u16], w: &[u64]) -> Result<(), Refused>;
+    fn commit(m: &[u8], state: &mut Self::State, b: &[u8]) -> Result<(), Refused>;
+    fn collect(m: &[u8], state: &mut Self::State, b: &[u8], block: usize) -> Result<(), Refused>;
+    fn buffer(m: &[u8], state: &Self::State, b: &mut [u8], k: &[u16], w: &[u64]) -> Result<(), Refused>;
+    fn flush(m: &[u8], state: &mut Self::State, b: &[u8]) -> Result<(), Refused>;
+    fn step(m: &mut [u8], state: &mut Self::State, b: &mut [u8]) -> Result<Step, Refused>;
+
+    /// Steps until the pending operation is finished; what each step told.
+    fn finish(m: &mut [u8], state: &mut Self::State, b: &mut [u8]) -> Vec<Step> {
+        let mut steps = Vec::new();
+        while steps.last().is_none_or(|step: &Step| !step.finished) {
+            steps.push(Self::step(m, state, b).expect("a step"));
+        }
+        steps
+    }
+
+    /// The same with an empty buffer.
+    fn finish_unbuffered(m: &mut [u8], state: &mut Self::State) -> Vec<Step> {
+        Self::finish(m, state, &mut { EMPTY })
+    }
+}
+
+/// Takes the calls that read and those that write from these modules.
+macro_rules! calls {
+    ($name:ident, $state:ty, $of:expr, $meaning:expr, $reader:ident, $writer:ident) => {
+        #[rustfmt::skip]
+        impl Calls for $name {
+            type State = $state;
+            fn of(state: &State) -> $state { $of(state) }
+            fn meaning(state: &$state) -> State { $meaning(state) }
+            fn recover(m: &[u8]) -> Result<$state, Refused> { $reader::recover(m) }
+            fn log_into(m: &[u8], k: &mut [u16], w: &mut [u64], g: &mut [u32]) -> Result<usize, Refused> {
+                $reader::log_into(m, k, w, g)
+            }
+            fn open(m: &[u8], state: &$state, valve: u16) -> Result<u64, Refused> { $reader::open(m, state, valve) }
+            fn word_at(m: &[u8], state: &$state, b: &[u8], valve: u16) -> Result<WordAt, Refused> {
+                $reader::word_at(m, state, b, valve)
+            }
+            fn pick(m: &[u8], state: &$state) -> Result<Option<usize>, Refused> { $reader::pick(m, state) }
+            fn survey(m: &[u8], state: &$state) -> Result<[[u32; 3]; MAX_BLOCKS], Refused> { $reader::survey(m, state) }
+            fn count_available(m: &[u8], state: &$state) -> Result<usize, Refused> { $reader::count_available(m, state) }
+            fn format(m: &[u8]) -> Result<$state, Refused> { $writer::format(m) }
+            fn append(m: &[u8], state: &mut $state, b: &[u8], k: &[u16], w: &[u64]) -> Result<(), Refused> {
+                $writer::append(m, state, b, k, w)
+            }
+            fn commit(m: &[u8], state: &mut $state, b: &[u8]) -> Result<(), Refused> { $writer::commit(m, state, b) }
+            fn collect(m: &[u8], state: &mut $state, b: &[u8], block: usize) -> Result<(), Refused> {
+                $writer::collect(m, state, b, block)
+            }
+            fn buffer(m: &[u8], state: &$state, b: &mut [u8], k: &[u16], w: &[u64]) -> Result<(), Refused> {
+                $writer::buffer(m, state, b, k, w)
+            }
+            fn flush(m: &[u8], state: &mut $state, b: &[u8]) -> Result<(), Refused> { $writer::flush(m, state, b) }
+            fn step(m: &mut [u8], state: &mut $state, b: &mut [u8]) -> Result<Step, Refused> { $writer::step(m, state, b) }
+        }
+    };
+}
+
+calls!(Proved, VjState, VjState::from, meaning, proved, proved);
+calls!(Second, State, State::clone, State::clone, reader, writer);
+
+/// What a state of the proved library means.
+fn meaning(state: &VjState) -> State {
+    state.meaning().expect("a state that means something")
+}
