@@ -40,6 +40,8 @@
  *  16  the page due is not there, or is not clean
  *  17  a lent list is too short
  *  18  the valve is not set
+ *  19  the wanted valves do not rise strictly, or one is above 32767
+ *  20  there are more than 192 wanted records
  *  23  a group has more entries than the buffer has places left
  *  24  the buffer holds a group where an append, a commit or a collection is begun
  */
@@ -150,6 +152,19 @@ typedef struct VjPages {
     uint64_t pages; /* how many pages; on a refusal it means nothing */
 } VjPages;
 
+/* A valve and its word. */
+typedef struct VjRecord {
+    uint16_t valve;
+    uint64_t word;
+} VjRecord;
+
+/* What vj_wanted answers. */
+typedef struct VjWanted {
+    uint8_t number; /* 0, or the number of the refusal */
+    uint8_t found;  /* 1 exactly where at most 96 valves differ; on a refusal 0 */
+    VjCells group;  /* then the group, as vj_append takes it: keys and vals, each `count` long, at most 96; else its count is 0 */
+} VjWanted;
+
 /* What vj_format, vj_append, vj_commit, vj_collect and vj_flush answer. */
 typedef struct VjBegun {
     uint8_t number; /* 0, or the number of the refusal */
@@ -186,7 +201,7 @@ VjPart vj_page(const uint8_t *medium, size_t medium_length, size_t p);
 /* The calls from here on, vj_format aside, take a state with its medium. A state of any content may be given: one that does not fit the
  * medium, or whose operation names none, is refused with 7. */
 
-/* The next five calls read a state against its medium; both stay as they are. All but vj_word leave the write buffer aside. */
+/* The next six calls read a state against its medium; both stay as they are. All but vj_word leave the write buffer aside. */
 
 /* The word of a valve on the medium. Refuses 1, 7, 18 and, where the valve's address lacks its entry, 6, in this order. */
 VjWord vj_opening(const uint8_t *medium, size_t medium_length, VjState state, uint16_t valve);
@@ -205,6 +220,13 @@ VjPages vj_available(const uint8_t *medium, size_t medium_length, VjState state)
  * change that is buffered shows before its flush. Refuses 1, 7, 18 (also where that entry removes the valve) and, where the medium is
  * asked and the valve's address lacks its entry, 6, in this order. */
 VjWordPlace vj_word(const uint8_t *medium, size_t medium_length, VjState state, const uint8_t *buffer, size_t buffer_length, uint16_t valve);
+
+/* The group that leads from the present settings, those that vj_opening gives, to the wanted ones: removals of the valves that are set and not
+ * wanted, ascending, then settings of the wanted valves that do not stand so, ascending. Appended, it leaves exactly the wanted settings, and
+ * no group with fewer entries does. It has no entry where nothing differs (vj_append refuses such a group with 10). Where more than 96 valves
+ * differ there is none: the change takes more than one group. The records may be any, and as many as they are. Refuses 1, 7, 19, 20 and, where
+ * the address of any valve that is set lacks its entry, 6, in this order. */
+VjWanted vj_wanted(const uint8_t *medium, size_t medium_length, VjState state, const VjRecord *records, size_t records_length);
 
 /* The next five calls begin an operation. The medium stays as it is: vj_step does the work. */
 

@@ -120,6 +120,23 @@ pub struct VjPages {
     pub pages: u64,
 }
 
+/// A valve and its word.
+#[repr(C)]
+#[derive(Clone, Copy, PartialEq, Eq, Debug)]
+pub struct VjRecord {
+    pub valve: u16,
+    pub word: u64,
+}
+
+/// What `vj_wanted` answers: `found` is 1 exactly where at most 96 valves differ.
+#[repr(C)]
+#[derive(Clone, Copy)]
+pub struct VjWanted {
+    pub number: u8,
+    pub found: u8,
+    pub group: VjCells,
+}
+
 /// What a call that begins an operation answers, with the state handed back.
 #[repr(C)]
 #[derive(Clone, Copy)]
@@ -150,6 +167,7 @@ extern "C" {
     pub fn vj_pick(medium: *const u8, medium_length: usize, state: VjState) -> VjPick;
     pub fn vj_survey(medium: *const u8, medium_length: usize, state: VjState) -> VjSurvey;
     pub fn vj_available(medium: *const u8, medium_length: usize, state: VjState) -> VjPages;
+    pub fn vj_wanted(medium: *const u8, medium_length: usize, state: VjState, records: *const VjRecord, records_length: usize) -> VjWanted;
     pub fn vj_format(medium: *const u8, medium_length: usize) -> VjBegun;
     pub fn vj_word(medium: *const u8, medium_length: usize, state: VjState, buffer: *const u8, buffer_length: usize, valve: u16) -> VjWordPlace;
     pub fn vj_append(medium: *const u8, medium_length: usize, state: VjState, buffer: *const u8, buffer_length: usize, keys: *const u16, keys_length: usize, words: *const u64, words_length: usize) -> VjBegun;

@@ -7,15 +7,17 @@
 use journal_tests::calls::{Calls, Proved, Second, EMPTY};
 use journal_tests::grown::shuffle_blocks;
 use journal_tests::random::{Life, Random};
-use journal_tests::reader::{self, Refused, BLOCK_BYTES, BLOCK_PAGES};
+use journal_tests::reader::{self, Place, Record, Refused, BLOCK_BYTES, BLOCK_PAGES};
 use journal_tests::writer::{self, State};
 use std::hint::black_box;
 use std::time::{Duration, Instant};
 
-/// What a run is given: a medium, a state, and lists that its log fits in.
+/// What a run is given: a medium, a state, lists that its log fits in, and wanted
+/// records, of which every second differs from what is set.
 struct Lent<C: Calls> {
     medium: Vec<u8>,
     state: C::State,
+    records: Vec<Record>,
     keys: Vec<u16>,
     words: Vec<u64>,
     groups: Vec<u32>,
@@ -101,6 +103,12 @@ fn openings<C: Calls>(lent: &mut Lent<C>) {
     }
 }
 
+/// The group for wanted openings, half of which differ.
+fn wanted<C: Calls>(lent: &mut Lent<C>) {
+    let group = C::wanted(&lent.medium, &lent.state, &lent.records).expect("an accepted call");
+    assert_eq!(black_box(group).map(|group| group.len()), Some(lent.records.len() / 2));
+}
+
 /// The keys and words of the n-th group.
 fn some_group<const ENTRIES: usize>(group: usize) -> ([u16; ENTRIES], [u64; ENTRIES]) {
     let key = |entry: usize| ((7 * group + 5 * entry) % 180) as u16;
@@ -144,6 +152,19 @@ fn almost_full(blocks: usize) -> Journal {
     grown(blocks, 16 * blocks - 18)
 }
 
+/// 192 valves set in two groups, and pages behind them.
+fn all_valves(blocks: usize) -> Journal {
+    let (mut medium, mut state) = formatted(blocks);
+    for first in [1, 97] {
+        let (keys, words): (Vec<u16>, Vec<u64>) =
+            (first..first + 96).map(|valve: u16| (valve, 1000 + u64::from(valve))).unzip();
+        Second::append(&medium, &mut state, &EMPTY, &keys, &words).expect("append");
+        Second::finish_unbuffered(&mut medium, &mut state);
+    }
+    assert_eq!(state.index.len(), 192);
+    (medium, state)
+}
+
 /// The same journal with its blocks in any order.
 fn shuffled((medium, state): Journal) -> Journal {
     let mut random = Random::new(7);
@@ -180,10 +201,21 @@ fn collectible((medium, state): Journal) -> Journal {
 // Times
 
 /// A copy of the journal, and lists as long as its log can be.
-fn lend<C: Calls>((medium, state): &Journal) -> Lent<C> {
+fn lend<C: Calls>(journal: &Journal) -> Lent<C> {
+    let ((medium, state), records) = (journal, half_differ(journal));
     let (medium, state, most) = (medium.clone(), C::of(state), reader::most_changes(medium));
     let (keys, words, groups) = (vec![1; most], vec![1; most], vec![1; most]);
-    Lent { medium, state, keys, words, groups }
+    Lent { medium, state, records, keys, words, groups }
+}
+
+/// The settings as records, every second with another word.
+fn half_differ((medium, state): &Journal) -> Vec<Record> {
+    let places = state.index.iter().enumerate();
+    let record = |(nth, &place): (usize, &Place)| {
+        let word = reader::node(medium, place).expect("a node") + (nth % 2) as u64;
+        Record { valve: place.valve, word }
+    };
+    places.map(record).collect()
 }
 
 /// The time of one run on a fresh medium and state.
@@ -237,6 +269,8 @@ fn main() {
         compare!(&format!("256 blocks, 24 openings, {name}"), &journal, openings);
         compare!(&format!("256 blocks, a commit, {name}"), &journal, commit);
     }
+    let name = "256 blocks, wanted, 192 valves of which 96 differ";
+    compare!(name, &all_valves(256), wanted);
     let journal = gathered_full(256);
     compare!("256 blocks, the log, full of single moves gathered", &journal, log);
     for (name, journal) in [
@@ -265,4 +299,5 @@ fn sixteen_blocks() {
     let name = "3824 single moves on 239 pages, gathered and flushed until 13";
     compare!(name, &formatted, gathered);
     compare!("a collection", &collectible(grown(16, 15)), collection);
+    compare!("wanted, 192 valves of which 96 differ", &all_valves(16), wanted);
 }

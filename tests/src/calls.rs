@@ -2,7 +2,7 @@
 //! are made of both.
 
 use crate::proved::{self, VjState};
-use crate::reader::{self, Refused, State, WordAt, MAX_BLOCKS, PAGE_BYTES};
+use crate::reader::{self, Entry, Record, Refused, State, WordAt, MAX_BLOCKS, PAGE_BYTES};
 use crate::writer::{self, Step};
 use std::fmt::Debug;
 
@@ -29,6 +29,7 @@ pub trait Calls {
     fn log_into(m: &[u8], k: &mut [u16], w: &mut [u64], g: &mut [u32]) -> Result<usize, Refused>;
     fn open(m: &[u8], state: &Self::State, valve: u16) -> Result<u64, Refused>;
     fn word_at(m: &[u8], state: &Self::State, b: &[u8], valve: u16) -> Result<WordAt, Refused>;
+    fn wanted(m: &[u8], state: &Self::State, records: &[Record]) -> Result<Option<Vec<Entry>>, Refused>;
     fn pick(m: &[u8], state: &Self::State) -> Result<Option<usize>, Refused>;
     fn survey(m: &[u8], state: &Self::State) -> Result<[[u32; 3]; MAX_BLOCKS], Refused>;
     fn count_available(m: &[u8], state: &Self::State) -> Result<usize, Refused>;
@@ -72,6 +73,9 @@ macro_rules! calls {
             fn word_at(m: &[u8], state: &$state, b: &[u8], valve: u16) -> Result<WordAt, Refused> {
                 $reader::word_at(m, state, b, valve)
             }
+            fn wanted(m: &[u8], state: &$state, records: &[Record]) -> Result<Option<Vec<Entry>>, Refused> {
+                $reader::wanted(m, state, records)
+            }
             fn pick(m: &[u8], state: &$state) -> Result<Option<usize>, Refused> { $reader::pick(m, state) }
             fn survey(m: &[u8], state: &$state) -> Result<[[u32; 3]; MAX_BLOCKS], Refused> { $reader::survey(m, state) }
             fn count_available(m: &[u8], state: &$state) -> Result<usize, Refused> { $reader::count_available(m, state) }
@@ -98,4 +102,17 @@ calls!(Second, State, State::clone, State::clone, reader, writer);
 /// What a state of the proved library means.
 fn meaning(state: &VjState) -> State {
     state.meaning().expect("a state that means something")
+}
+
+/// Makes each of these tests of either implementation.
+#[macro_export]
+macro_rules! both {
+    ($($name:ident,)*) => {
+        mod second {
+            $(#[test] fn $name() { super::$name::<$crate::calls::Second>() })*
+        }
+        mod proved {
+            $(#[test] fn $name() { super::$name::<$crate::calls::Proved>() })*
+        }
+    };
 }

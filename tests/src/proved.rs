@@ -7,8 +7,11 @@
 
 pub use crate::valve_journal::*;
 
-use crate::reader::{Entry, Pending, Place, Refused, State, WordAt, MAX_BLOCKS, MAX_VALVES};
+use crate::reader::{
+    Entry, Pending, Place, Record, Refused, State, WordAt, MAX_BLOCKS, MAX_VALVES,
+};
 use crate::writer::{Step, Touched};
+use std::mem::offset_of;
 
 // ---------------------------------------------------------------------------
 // States: the library's and the second implementation's
@@ -165,6 +168,19 @@ pub fn word_at(
     answer(r.number, place)
 }
 
+/// The group for wanted openings, if there is one.
+pub fn wanted(
+    medium: &[u8],
+    state: &VjState,
+    records: &[Record],
+) -> Result<Option<Vec<Entry>>, Refused> {
+    let (m, records, length) = (medium.as_ptr(), records.as_ptr().cast(), records.len());
+    let r = unsafe { vj_wanted(m, medium.len(), *state, records, length) };
+    let entries = || r.group.used().expect("a group").map(|(key, word)| Entry { key, word });
+    let group = (r.number == 0 && r.found == 1).then(|| entries().collect());
+    answer(r.number, group)
+}
+
 /// The picker.
 pub fn pick(medium: &[u8], state: &VjState) -> Result<Option<usize>, Refused> {
     let r = unsafe { vj_pick(medium.as_ptr(), medium.len(), *state) };
@@ -264,3 +280,6 @@ pub fn step(medium: &mut [u8], state: &mut VjState, buffer: &mut [u8]) -> Result
 }
 
 const _: () = assert!(MAX_VALVES == 192 && size_of::<VjState>() == 4176);
+const _: () = assert!(size_of::<Record>() == size_of::<VjRecord>());
+const _: () = assert!(offset_of!(Record, valve) == offset_of!(VjRecord, valve));
+const _: () = assert!(offset_of!(Record, word) == offset_of!(VjRecord, word));

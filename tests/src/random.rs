@@ -4,11 +4,12 @@
 use crate::grown::{some_blocks, some_grown, FEW_BLOCKS};
 use crate::history::{Event, History};
 use crate::reader::{
-    self, Class, Entry, Page, Place, Refused, BASE, BLOCK_BYTES, BLOCK_PAGES, BUFFER_ENTRIES,
-    GATHERED, GROUP_ENTRIES, MAX_BLOCKS, MAX_VALVES, MOVED, NODES, PAGE_BYTES, PAGE_ENTRIES,
-    RECORDS, REMOVAL,
+    self, Class, Entry, Page, Place, Record, Refused, BASE, BLOCK_BYTES, BLOCK_PAGES,
+    BUFFER_ENTRIES, GATHERED, GROUP_ENTRIES, MAX_BLOCKS, MAX_VALVES, MOVED, NODES, PAGE_BYTES,
+    PAGE_ENTRIES, RECORDS, REMOVAL,
 };
 use crate::writer::{self, lay_gathered, lay_page, put_page, seal, Pending, State, Step, Touched};
+use std::collections::BTreeMap;
 
 // ---------------------------------------------------------------------------
 // The generator
@@ -156,11 +157,13 @@ pub enum Action {
 }
 
 /// A call that alters nothing.
-#[derive(Clone, Copy, PartialEq, Eq, Debug)]
+#[derive(Clone, PartialEq, Eq, Debug)]
 pub enum Reading {
     Open { valve: u16 },
     /// The place of a valve's word, in the buffer or the medium.
     Word { valve: u16 },
+    /// The group that leads to these settings.
+    Wanted { records: Vec<Record> },
     Pick,
     Survey,
     Available,
@@ -359,9 +362,22 @@ impl Life {
         if random.one_in(self.habits.gather_one_in) && !random.one_in(4) {
             return self.some_small_group(random);
         }
-        match random.below(8) {
-            0 => Action::Commit,
-            1 | 2 => self.picked(random, state),
+        match random.below(16) {
+            0 | 1 => Action::Commit,
+            2..=5 => self.picked(random, state),
+            6 => self.wanted(random, state),
+            _ => self.some_append(random, 1, GROUP_ENTRIES),
+        }
+    }
+
+    /// An append of the group that leads to some settings, if it has an entry.
+    fn wanted(&self, random: &mut Random, state: &State) -> Action {
+        let records = some_records(random, &self.medium, state);
+        match reader::wanted(&self.medium, state, &records) {
+            Ok(Some(group)) if !group.is_empty() => {
+                let (keys, words) = group.iter().map(|entry| (entry.key, entry.word)).unzip();
+                Action::Append { keys, words }
+            }
             _ => self.some_append(random, 1, GROUP_ENTRIES),
         }
     }
@@ -388,12 +404,12 @@ impl Life {
             8 => buffered(self.some_append(random, 0, GROUP_ENTRIES + 2)),
             9 => buffered(self.spoilt_append(random)),
             10 => Action::Flush,
-            _ => Action::Read(self.some_reading(random)),
+            _ => Action::Read(self.some_reading(random, state)),
         }
     }
 
-    fn some_reading(&self, random: &mut Random) -> Reading {
-        match random.below(9) {
+    fn some_reading(&self, random: &mut Random, state: &State) -> Reading {
+        match random.below(11) {
             0 => Reading::Pick,
             1 => Reading::Survey,
             2 => {
@@ -408,6 +424,7 @@ impl Life {
             5 => Reading::Open { valve: random.bits() as u16 },
             6 => Reading::Word { valve: random.bits() as u16 },
             7 => Reading::Word { valve: random.below(self.habits.valves) as u16 },
+            8 | 9 => Reading::Wanted { records: some_records(random, &self.medium, state) },
             _ => Reading::Open { valve: random.below(self.habits.valves) as u16 },
         }
     }
@@ -480,7 +497,7 @@ impl Life {
                 self.call(event, |m, s, b| writer::buffer(m, s, b, keys, words))
             }
             Action::Flush => self.call(Event::Flush, |m, s, b| writer::flush(m, s, b)),
-            Action::Read(reading) => self.call(Event::Reading, |m, s, b| read(m, s, b, *reading)),
+            Action::Read(reading) => self.call(Event::Reading, |m, s, b| read(m, s, b, reading)),
         }
     }
 
@@ -623,10 +640,11 @@ fn buffered(action: Action) -> Action {
 }
 
 /// A reading; what it hands back is let go.
-fn read(medium: &[u8], state: &State, buffer: &[u8], reading: Reading) -> Result<(), Refused> {
-    match reading {
+fn read(medium: &[u8], state: &State, buffer: &[u8], reading: &Reading) -> Result<(), Refused> {
+    match *reading {
         Reading::Open { valve } => reader::open(medium, state, valve).map(drop),
         Reading::Word { valve } => reader::word_at(medium, state, buffer, valve).map(drop),
+        Reading::Wanted { ref records } => reader::wanted(medium, state, records).map(drop),
         Reading::Pick => reader::pick(medium, state).map(drop),
         Reading::Survey => reader::survey(medium, state).map(drop),
         Reading::Available => reader::count_available(medium, state).map(drop),
@@ -1284,6 +1302,55 @@ fn stray_address(random: &mut Random, sketch: &mut Sketch, way: usize) {
 }
 
 // ---------------------------------------------------------------------------
+// Wanted records
+
+/// Wanted records: the present settings with some valves gone, some words
+/// changed and some valves added; now and then with a fault, or anything.
+pub fn some_records(random: &mut Random, medium: &[u8], state: &State) -> Vec<Record> {
+    let (gone, changed) = (random.one_of(&[1, 2, 5, 300]), random.one_of(&[1, 2, 5, 300]));
+    let added = random.one_of(&[0, 1, 20, 60, 96, 97, 192, 250]);
+    let mut records = BTreeMap::new();
+    for &place in &state.index {
+        let word = reader::node(medium, place).unwrap_or(7);
+        if !random.one_in(gone) {
+            records.insert(place.valve, if random.one_in(changed) { random.word() } else { word });
+        }
+    }
+    let (valves, most) = (random.one_of(&[200, 32768]), random.one_of(&[192, 192, 193]));
+    for _ in 0..random.below(added + 1) {
+        if records.len() < most {
+            records.insert(random.below(valves) as u16, random.word());
+        }
+    }
+    let records = records.into_iter().map(|(valve, word)| Record { valve, word });
+    let mut records: Vec<Record> = records.collect();
+    if random.one_in(6) {
+        damage_records(random, &mut records);
+    }
+    records
+}
+
+/// Changes one thing about a list of records, so that it is refused or not.
+fn damage_records(random: &mut Random, records: &mut Vec<Record>) {
+    let any = |random: &mut Random| Record { valve: random.bits() as u16, word: random.word() };
+    let length = records.len();
+    match random.below(7) {
+        0 if length > 0 => records.push(records[random.below(length)]),
+        1 if length > 0 => records[random.below(length)].valve = random.bits() as u16,
+        2 if length > 1 => records.swap(length - 2, length - 1),
+        3 => records.push(Record { valve: random.one_of(&[32767, 32768, 65535]), word: 1 }),
+        4 => *records = (0..random.one_of(&[193, 194, 32768])).map(setting_record).collect(),
+        5 => *records = (0..random.below(400)).map(|_| any(random)).collect(),
+        _ => *records = (0..40000).map(setting_record).collect(),
+    }
+}
+
+/// A record of this valve.
+fn setting_record(valve: u16) -> Record {
+    Record { valve, word: valve.into() }
+}
+
+// ---------------------------------------------------------------------------
 // States for 7
 
 /// Changes one thing about a state, so that it is unfit or only odd.
@@ -1301,14 +1368,14 @@ pub fn damage_state(random: &mut Random, state: &mut State) {
         8 => state.pending = Some(Pending::Commit { done: random.below(10) as u64 }),
         9 => state.pending = Some(Pending::Collect { block: random.below(blocks + 1) }),
         10 => state.pending = Some(Pending::Format { erased: random.below(blocks + 2) }),
-        11 => state.erased = some_records(random),
+        11 => state.erased = some_erased(random),
         12 => state.pending = Some(Pending::Flush),
         _ => state.pending = Some(some_pending_append(random)),
     }
 }
 
 /// Records of erased blocks: none, all, or any.
-fn some_records(random: &mut Random) -> [bool; RECORDS] {
+fn some_erased(random: &mut Random) -> [bool; RECORDS] {
     match random.below(4) {
         0 => [false; RECORDS],
         1 => [true; RECORDS],

@@ -4,7 +4,7 @@
 mod common;
 
 use common::{blank, finish, formatted, lists, refused, touched, valves};
-use journal_tests::calls::{Calls, Proved, Second, EMPTY};
+use journal_tests::calls::{Calls, EMPTY};
 use journal_tests::grown::{grown, shuffle_blocks, How, BLOCK_COUNTS};
 use journal_tests::proved::VjSurvey;
 use journal_tests::random::{self, Random};
@@ -14,19 +14,7 @@ use journal_tests::reader::{
 };
 use journal_tests::writer::{self, lay_page, put_page, Pending, State, Touched};
 
-/// Makes each test of either implementation.
-macro_rules! both {
-    ($($name:ident,)*) => {
-        mod second {
-            $(#[test] fn $name() { super::$name::<super::Second>() })*
-        }
-        mod proved {
-            $(#[test] fn $name() { super::$name::<super::Proved>() })*
-        }
-    };
-}
-
-both! {
+journal_tests::both! {
     lengths,
     two_hundred_and_fifty_seven_blocks_are_refused_everywhere,
     the_limits_of_a_state,
@@ -60,12 +48,13 @@ fn lengths<C: Calls>() {
 }
 
 /// The numbers that all calls that take a state answer. Block 0 is named.
-fn numbers<C: Calls>(medium: &[u8], state: &State) -> [u8; 11] {
+fn numbers<C: Calls>(medium: &[u8], state: &State) -> [u8; 12] {
     let state = C::of(state);
     let (mut lent, mut buffer) = (medium.to_vec(), EMPTY);
     [
         number(C::open(medium, &state, 5)),
         number(C::word_at(medium, &state, &EMPTY, 5)),
+        number(C::wanted(medium, &state, &[])),
         number(C::pick(medium, &state)),
         number(C::survey(medium, &state)),
         number(C::count_available(medium, &state)),
@@ -80,11 +69,11 @@ fn numbers<C: Calls>(medium: &[u8], state: &State) -> [u8; 11] {
 
 fn two_hundred_and_fifty_seven_blocks_are_refused_everywhere<C: Calls>() {
     let (mut medium, state) = formatted(256);
-    assert_eq!(numbers::<C>(&medium, &state), [18, 18, 0, 0, 0, 0, 0, 15, 0, 10, 9]);
+    assert_eq!(numbers::<C>(&medium, &state), [18, 18, 0, 0, 0, 0, 0, 0, 15, 0, 10, 9]);
     medium.resize(257 * BLOCK_BYTES, 0xFF);
     for blocks in [256, 257] {
         let state = State { blocks, ..state.clone() };
-        assert_eq!(numbers::<C>(&medium, &state), [1; 11]);
+        assert_eq!(numbers::<C>(&medium, &state), [1; 12]);
     }
     assert_eq!(number(C::recover(&medium)), 1);
     assert_eq!(number(C::format(&medium)), 1);
@@ -128,7 +117,7 @@ fn the_limits_of_a_state<C: Calls>() {
             assert!(C::survey(&medium, &state).is_ok(), "{blocks} blocks: {state:?}");
         }
         for change in unfit {
-            assert_eq!(numbers::<C>(&medium, &with(change)), [7; 11], "{blocks} blocks");
+            assert_eq!(numbers::<C>(&medium, &with(change)), [7; 12], "{blocks} blocks");
         }
         let mut state = C::of(&state);
         assert_eq!(C::collect(&medium, &mut state, &EMPTY, blocks - 1), refused(15));

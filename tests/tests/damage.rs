@@ -4,7 +4,7 @@
 mod common;
 
 use common::*;
-use journal_tests::random::{self, damage, damage_state, some_buffer, Random};
+use journal_tests::random::{self, damage, damage_state, some_buffer, some_records, Random};
 use journal_tests::reader::*;
 use journal_tests::writer::{self, Pending, State, Touched};
 
@@ -83,6 +83,7 @@ fn all_calls(random: &mut Random, medium: &[u8], state: &State) -> Vec<u8> {
     note(pick(medium, state).map(drop));
     note(survey(medium, state).map(drop));
     note(word_at(medium, state, &buffer, random.below(60) as u16).map(drop));
+    note(wanted(medium, state, &some_records(random, medium, state)).map(drop));
     note(begun(state, |state| writer::append(medium, state, &buffer, &keys, &words)));
     note(begun(state, |state| writer::commit(medium, state, &buffer)));
     note(begun(state, |state| writer::collect(medium, state, &buffer, block)));
@@ -181,7 +182,7 @@ fn any_medium_and_any_state() {
         }
     }
     println!("refusals by number: {seen:?}");
-    for number in [1, 6, 7, 8, 9, 10, 12, 13, 14, 15, 16, 18, 23, 24] {
+    for number in [1, 6, 7, 8, 9, 10, 12, 13, 14, 15, 16, 18, 19, 20, 23, 24] {
         assert!(seen[number] > 0, "never: {number}");
     }
 }

@@ -163,6 +163,7 @@ fn unfit(change: impl Fn(&mut State)) {
     assert_eq!(open(&lent, &given, 5), refused(7));
     assert_eq!(pick(&lent, &given), refused(7));
     assert_eq!(survey(&lent, &given), refused(7));
+    assert_eq!(wanted(&lent, &given, &[]), refused(7));
     assert_eq!((lent, given), (medium, state));
 }
 
@@ -473,6 +474,7 @@ fn one_is_first_everywhere() {
     assert_eq!(open(&short, &state, 5), refused(1));
     assert_eq!(pick(&short, &state), refused(1));
     assert_eq!(survey(&short, &state), refused(1));
+    assert_eq!(wanted(&short, &state, &[]), refused(1));
     assert_eq!(log_into(&short, &mut [], &mut [], &mut []), refused(1));
 }
 

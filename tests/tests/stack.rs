@@ -6,9 +6,9 @@ mod common;
 use common::{blank, lists, valves, EMPTY};
 use journal_tests::calls::{Calls, Proved, Second};
 use journal_tests::grown::{grown, shuffle_blocks, How};
-use journal_tests::proved::{self, VjState};
+use journal_tests::proved::{self, VjRecord, VjState};
 use journal_tests::random::Random;
-use journal_tests::reader::{self, BASE, BLOCK_BYTES, BLOCK_PAGES, GATHERED, MOVED, NODES};
+use journal_tests::reader::{self, Place, BASE, BLOCK_BYTES, BLOCK_PAGES, GATHERED, MOVED, NODES};
 use journal_tests::stack;
 use journal_tests::writer::{self, lay_gathered, lay_page, put_page, State};
 use std::collections::BTreeMap;
@@ -18,12 +18,13 @@ use std::io::Write;
 /// The most bytes of stack that each call may take, with what the caller puts
 /// there for its arguments and its answer: what was measured, rounded up to whole
 /// 4 KiB. The header says these numbers.
-const LIMITS: [(&str, usize); 15] = [
+const LIMITS: [(&str, usize); 16] = [
     ("vj_recover", 98304),
     ("vj_log", 90112),
     ("vj_page", 1024),
     ("vj_opening", 12288),
     ("vj_word", 24576),
+    ("vj_wanted", 28672),
     ("vj_pick", 12288),
     ("vj_survey", 16384),
     ("vj_available", 12288),
@@ -80,6 +81,12 @@ impl Table {
             note!(self, vj_opening(m.at(), m.len, *state, valve));
             note!(self, vj_word(m.at(), m.len, *state, b.at(), b.len, valve));
         }
+        // Of 192 valves all but one differ, 96 do, and none does.
+        for same in [1, 96, 192] {
+            let records = records(medium, state, same);
+            let r = Lent::of(&records);
+            note!(self, vj_wanted(m.at(), m.len, *state, r.at(), r.len));
+        }
         note!(self, vj_pick(m.at(), m.len, *state));
         note!(self, vj_survey(m.at(), m.len, *state));
         note!(self, vj_available(m.at(), m.len, *state));
@@ -109,6 +116,17 @@ impl Table {
             }
         }
     }
+}
+
+/// The settings of a state of 192 valves as records, so many as they are and the
+/// others with another word.
+fn records(medium: &[u8], state: &VjState, same: usize) -> Vec<VjRecord> {
+    let record = |nth: usize| {
+        let (valve, address) = (state.index.keys[nth], state.index.vals[nth]);
+        let word = reader::node(medium, Place { valve, address }).expect("a node");
+        VjRecord { valve, word: if nth < same { word } else { !word } }
+    };
+    (0..192).map(record).collect()
 }
 
 /// A slice as the library takes it, to be lent to another thread.

@@ -325,7 +325,7 @@ impl Twins {
                 self.call(|m, s, b| proved::buffer(m, s, b, keys, words))
             }
             Action::Flush => self.call(|m, s, b| proved::flush(m, s, b)),
-            Action::Read(reading) => self.read(*reading),
+            Action::Read(reading) => self.read(reading),
         }
     }
 
@@ -385,12 +385,16 @@ impl Twins {
     }
 
     /// A reading: both hand back the same.
-    fn read(&self, reading: Reading) -> Outcome {
+    fn read(&self, reading: &Reading) -> Outcome {
         let medium = &self.medium;
         let proved = self.state.as_ref().expect("a state");
         let second = self.life.state.as_ref().expect("a state");
         let buffer = &self.buffer;
-        let answer = match reading {
+        let answer = match *reading {
+            Reading::Wanted { ref records } => same(
+                proved::wanted(medium, proved, records),
+                reader::wanted(medium, second, records),
+            ),
             Reading::Word { valve } => same(
                 proved::word_at(medium, proved, buffer, valve),
                 reader::word_at(medium, second, buffer, valve),
@@ -541,6 +545,7 @@ const HAPPENINGS: [(usize, &[&str]); 2] = [
     (5, &[
         "append refused 10", "append refused 11", "commit refused 13", "commit refused 14",
         "collect refused 13", "collect refused 14", "read refused 17", "read refused 18",
+        "read refused 19", "read refused 20",
         "cut inside formatting", "format while something is pending", "buffer refused 10",
         "buffer refused 11", "buffer refused 14", "flush refused 10",
     ]),
@@ -695,7 +700,8 @@ impl Answers {
         }
     }
 
-    /// Every call that writes, available pages, and the place of a word.
+    /// Every call that writes, available pages, the place of a word, and the
+    /// group for wanted openings.
     fn all(&mut self, random: &mut Random, lent: &Lent) {
         let formatting = proved::format(&lent.medium);
         let expected_format = writer::format(&lent.medium);
@@ -764,7 +770,8 @@ impl Answers {
         }
     }
 
-    /// Available pages, and the places of some words.
+    /// Available pages, the places of some words, and the group for wanted
+    /// openings.
     fn read(&mut self, random: &mut Random, lent: &Lent) {
         self.call(
             "available",
@@ -780,6 +787,20 @@ impl Answers {
                 |m, s, b| proved::word_at(m, s, b, valve),
                 |m, s, b| reader::word_at(m, s, b, valve),
             );
+        }
+        let state = lent.state.meaning().filter(|state| state.index.len() <= 192);
+        let state = state.unwrap_or_else(|| State::at_format(4));
+        let records = random::some_records(random, &lent.medium, &state);
+        let lent_records = records.clone();
+        let wanted = self.call(
+            "wanted",
+            lent,
+            |m, s, _| proved::wanted(m, s, &lent_records),
+            |m, s, _| reader::wanted(m, s, &records),
+        );
+        assert!(lent_records == records, "the records stay");
+        if let Some((_, None)) = wanted {
+            self.note("wanted, none", &Ok(()));
         }
     }
 }
@@ -1023,7 +1044,7 @@ fn any_bytes(random: &mut Random) -> Vec<u8> {
 }
 
 /// The numbers that each call may answer, 0 being no refusal.
-const NUMBERS: [(&str, &[u8]); 9] = [
+const NUMBERS: [(&str, &[u8]); 11] = [
     ("format", &[0, 1]),
     ("append", &[0, 1, 7, 8, 24, 10, 11, 12, 13, 14]),
     ("commit", &[0, 1, 7, 8, 24, 13, 14]),
@@ -1033,6 +1054,8 @@ const NUMBERS: [(&str, &[u8]); 9] = [
     ("step", &[0, 1, 7, 9, 6, 14, 16]),
     ("word", &[0, 1, 7, 18, 6]),
     ("available", &[0, 1, 7]),
+    ("wanted", &[0, 1, 7, 19, 20, 6]),
+    ("wanted, none", &[0]),
 ];
 
 #[test]

@@ -18,6 +18,7 @@ use Rattle.index.specs.Index.{put, remove, risingFrom, rising, assign, assignAl
 use Rattle.index.proofs.Rising.{assign-rising}
 use Rattle.index.proofs.Members.{In, first, later, in-none, assign-same, members-within}
 use Rattle.nodes.specs.Nodes.{wordAt, sound, words, inBlock, insertByAddress, byAddress, live}
+use Rattle.nodes.proofs.Alive.{all-words}
 use Rattle.recovery.specs.Recovery.{Placed, entriesOf}
 
 -- ---- valves and nodes
@@ -60,14 +61,8 @@ keys-group [] = refl
 keys-group (x ∷ g) = rw (keys-append (nodes (24 * x .at) (x .page .entries)) (nodesOf g), keys-append (x .page .entries) (entriesOf g), keys-nodes, keys-group g)
 
 pub valves-words : (v : List View) (l : List Cell) → valves (words v l) ≡ valves l
-unfolding valves all words
-valves-words v [] = refl
-valves-words v (x ∷ l) = rw (ap (λ (t : Bool). ltb (x .key) 32768 && t) (valves-words v l))
-
-pub rising-words : (v : List View) (n : ℕ) (l : List Cell) → risingFrom n (words v l) ≡ risingFrom n l
-unfolding risingFrom words
-rising-words v n [] = refl
-rising-words v n (x ∷ l) = rw (rising-words v (suc (x .key)) l)
+unfolding valves
+valves-words v l = all-words (λ k. ltb k 32768) v l
 
 -- ---- the words of an index in two media that agree on its nodes
 

@@ -25,12 +25,12 @@ use Rattle.flash.proofs.Laws.{seen-views}
 use Rattle.index.specs.Index.{put, remove, lookup, risingFrom, rising, assign, assignAll}
 use Rattle.index.proofs.Rising.{assign-rising}
 use Rattle.nodes.specs.Nodes.{setsValves, entryIn, nodeIn, wordFor, wordAt, words}
+use Rattle.nodes.proofs.Alive.{rising-words}
 use Rattle.state.specs.State.{Held, fitWith}
 use Rattle.readings.specs.Readings.{placeOf, names, lastNaming, setsAt, soughtIn, sought, wordPart, wordNumber}
 use Rattle.valve_log.specs.History.{History, assignGroups}
 use Rattle.valve_log.specs.Reached.{world}
 use Rattle.valve_log.specs.Word.{Holds, Tells, WordTold}
-use Rattle.valve_log.proofs.Index.{rising-words}
 use Rattle.valve_log.proofs.Coupling.{alive-of}
 use Rattle.valve_log.proofs.Steps.{assign-groups}
 use Rattle.valve_log.proofs.Lent.{Lent, lent-of, lent-groups, with-fit}

@@ -1,0 +1,174 @@
+-- The call's answers, in the shapes that the code's proofs ask.
+use mathlib.Core.Path.{_≡_, refl, sym, ap, _∙_}
+use mathlib.Core.Bool.{Bool, true, false, cond, not}
+use mathlib.Core.Option.{Option, none, some}
+use mathlib.Core.List.{List, []}
+use Prim.Native.Nat.{ℕ, _≤_, _<_}
+use native.Mathlib.Omega.{arith}
+use lib.ListN.{length}
+use lib.Dec.{leb, ltb}
+use borrow.Author.Tests.{le-leb, lt-leb, leb-true, not-true, not-false}
+use Rattle.lists.specs.declared.Cell.{Cell}
+use Rattle.lists.specs.declared.Cells.{Cells}
+use Rattle.lists.specs.Lists.{all, every, isSome}
+use Rattle.lists.specs.Needs.{checked, numberOf}
+use Rattle.lists.specs.Cells.{listed}
+use Rattle.lists.proofs.Laws.{all-weaken, every-at, number-refuses, number-clear, numbered, tests, checked-pass}
+use Rattle.page.specs.Pages.{View}
+use Rattle.flash.specs.Medium.{views}
+use Rattle.index.specs.Index.{rising}
+use Rattle.index.specs.Search.{Kept}
+use Rattle.nodes.specs.Nodes.{sound, words}
+use Rattle.nodes.proofs.Alive.{rising-words, all-words}
+use Rattle.state.specs.declared.State.{State}
+use Rattle.state.specs.State.{Held, meaning, placeFit, indexFit, fit, stateNeeds}
+use Rattle.state.proofs.Laws.{passed}
+use Rattle.records.specs.declared.Notes.{Notes}
+use Rattle.settings.specs.declared.Settings.{Settings}
+use Rattle.settings.specs.Present.{presentOf, settingsIn}
+use Rattle.wanted_group.specs.declared.Limited.{Limited}
+use Rattle.wanted_group.specs.Group.{isValve, groupFor, differing}
+use Rattle.wanted_group.specs.Limited.{Cut, limited, cutBy}
+use Rattle.wanted_group.proofs.Fewest.{group-length}
+use Rattle.wanted.specs.declared.Offered.{Offered}
+use Rattle.wanted.specs.Wanted.{Offer, turnedBack, group, valvesOk, offerFor, Told, told, saidBy}
+use Rattle.wanted.specs.Noted.{notedSettings, Orderly, recordNeeds, offerOr6, wantedBy}
+
+-- ---- a refusal
+
+pub refused-is : (k : ℕ) (g : Cells) → listed g ≡ [] → saidBy (record { number = k; found = false; group = g }) ≡ told (turnedBack k)
+unfolding told
+refused-is k g e = ap (λ (t : List Cell). record { number = k; found = false; entries = t }) e
+
+-- ---- 19 and 20
+
+module _ (n : Notes) where
+  pub record-19 : not (n .rises) ≡ true → 19 ≡ numberOf (recordNeeds n)
+  unfolding numberOf checked
+  record-19 h = rw (not-true (n .rises) h)
+
+  module _ (h : not (n .rises) ≡ false) where
+    pub record-20 : 192 < n .count → 20 ≡ numberOf (recordNeeds n)
+    unfolding numberOf checked
+    record-20 l = rw (not-false (n .rises) h, lt-leb (n .count) 192 l)
+
+    pub record-0 : n .count ≤ 192 → 0 ≡ numberOf (recordNeeds n)
+    unfolding numberOf checked
+    record-0 l = rw (not-false (n .rises) h, le-leb (n .count) 192 l)
+
+-- ---- 6 and the group, from the present settings
+
+is-some : (b : Bool) (l : List Cell) → isSome (cond b (some l) none) ≡ b
+unfolding isSome
+is-some true l = refl
+is-some false l = refl
+
+some-is : (b : Bool) (l m : List Cell) → b ≡ true → some l ≡ cond b (some m) none → l ≡ m
+some-is b l m e h = ap value (h ∙ ap (λ (t : Bool). cond t (some m) none) e)
+  where
+    value : Option (List Cell) → List Cell
+    value none = l
+    value (some x) = x
+
+-- what a group cut off at 96 entries says
+abbrev cutTold : Cut → Told
+cutTold c = record { number = 0; found = c .found; entries = c .entries }
+
+cut-offer : (t : Bool) (es : List Cell)
+    → cutTold (cond t (record { found = true; entries = es }) (record { found = false; entries = [] })) ≡ told (cond t (group es) Offer.none)
+unfolding told
+cut-offer true es = refl
+cut-offer false es = refl
+
+-- more than 96 entries exactly where more than 96 valves differ
+limited-offer : (s w : List Cell) → rising s ≡ true → rising w ≡ true → all isValve s ≡ true → all isValve w ≡ true
+    → cutTold (limited (groupFor s w)) ≡ told (offerFor s w)
+unfolding limited offerFor
+limited-offer s w r q a b =
+    cut-offer (leb (length (groupFor s w)) 96) (groupFor s w)
+    ∙ ap (λ (k : ℕ). told (cond (leb k 96) (group (groupFor s w)) Offer.none)) (group-length s w r q a b)
+
+module _ (v : List View) (l : List Cell) (p : Settings) (k : Kept (p .cells .count) (settingsIn p) (presentOf v l)) where
+  told-sound : p .sound ≡ sound v l
+  unfolding presentOf
+  told-sound = sym (is-some (p .sound) (listed (p .cells))) ∙ ap isSome (k .so) ∙ is-some (sound v l) (words v l)
+
+  pub offer-6 : (w : List Cell) (x : Told) → not (p .sound) ≡ true → x ≡ told (turnedBack 6) → x ≡ told (offerOr6 v l w)
+  unfolding offerOr6 checked
+  offer-6 w x h e = e ∙ rw (← told-sound, not-true (p .sound) h)
+
+  module _ (h : not (p .sound) ≡ false) where
+    told-words : listed (p .cells) ≡ words v l
+    unfolding presentOf
+    told-words =
+        some-is (sound v l) (listed (p .cells)) (words v l) (sym told-sound ∙ not-false (p .sound) h)
+        (sym (ap (λ (t : Bool). cond t (some (listed (p .cells))) none) (not-false (p .sound) h)) ∙ k .so)
+
+    pub told-few : p .cells .count ≤ 192
+    told-few = k .few
+
+    pub told-rises : rising l ≡ true → rising (listed (p .cells)) ≡ true
+    unfolding rising
+    told-rises r = ap rising told-words ∙ rising-words v 0 l ∙ r
+
+    pub told-valves : all isValve l ≡ true → all isValve (listed (p .cells)) ≡ true
+    unfolding isValve
+    told-valves a = ap (all isValve) told-words ∙ all-words (λ k. ltb k 32768) v l ∙ a
+
+    pub offer-group : (w : List Cell) (g : Limited) → rising l ≡ true → all isValve l ≡ true → rising w ≡ true → all isValve w ≡ true
+        → Kept (g .cells .count) (cutBy g) (limited (groupFor (listed (p .cells)) w))
+        → saidBy (record { number = 0; found = g .found; group = g .cells }) ≡ told (offerOr6 v l w)
+    unfolding offerOr6 checked
+    offer-group w g r a q b e =
+        ap cutTold (e .so)
+        ∙ limited-offer (listed (p .cells)) w (told-rises r) q (told-valves a) b
+        ∙ ap (λ (t : List Cell). told (offerFor t w)) told-words
+        ∙ rw (← told-sound, not-false (p .sound) h)
+
+-- ---- the answer, from the notes
+
+pub all-valves : (blocks : ℕ) (l : List Cell) → indexFit blocks l ≡ true → all isValve l ≡ true
+unfolding indexFit placeFit isValve
+all-valves blocks l h = all-weaken (placeFit blocks) isValve (λ x k. every-at 0 _ k) l (every-at 2 _ h)
+
+module _ (m : List ℕ) (s : State) (n : Notes) (g : ℕ) (e : g ≡ numberOf (stateNeeds (length m) (views m) (meaning s))) where
+  pub answer-state : (x : Told) → (g ≡ 0 → ⊥) → x ≡ told (turnedBack g) → x ≡ told (wantedBy (length m) (views m) (meaning s) n)
+  unfolding wantedBy
+  answer-state x h q = q ∙ ap told (number-refuses turnedBack (stateNeeds (length m) (views m) (meaning s)) _ g e h)
+
+  module _ (z : g ≡ 0) where
+    pub state-valves : all isValve (listed (s .index)) ≡ true
+    unfolding fit
+    state-valves = all-valves (s .head .blocks) (listed (s .index)) (every-at 1 _ (passed m s g e z .fits))
+
+    on : wantedBy (length m) (views m) (meaning s) n ≡ checked turnedBack (recordNeeds n) (offerOr6 (views m) (listed (s .index)) (notedSettings n))
+    unfolding wantedBy checked
+    on = let p = passed m s g e z in rw (p .size, p .fits)
+
+    module _ (k : ℕ) (f : k ≡ numberOf (recordNeeds n)) where
+      pub answer-records : (x : Told) → (k ≡ 0 → ⊥) → x ≡ told (turnedBack k) → x ≡ told (wantedBy (length m) (views m) (meaning s) n)
+      answer-records x h q = q ∙ ap told (number-refuses turnedBack (recordNeeds n) _ k f h ∙ sym on)
+
+      module _ (y : k ≡ 0) where
+        both : every (tests (recordNeeds n)) ≡ true
+        unfolding numbered
+        both = number-clear (recordNeeds n) refl (sym f ∙ y)
+
+        pub records-few : n .count ≤ 192
+        unfolding tests
+        records-few = leb-true (n .count) 192 (every-at 1 _ both)
+
+        orderly : Orderly n → valvesOk (notedSettings n) ≡ true
+        unfolding tests
+        orderly o = o .so (every-at 0 _ both) records-few
+
+        pub records-rise : Orderly n → rising (notedSettings n) ≡ true
+        unfolding valvesOk
+        records-rise o = every-at 0 _ (orderly o)
+
+        pub records-valves : Orderly n → all isValve (notedSettings n) ≡ true
+        unfolding valvesOk
+        records-valves o = every-at 1 _ (orderly o)
+
+        pub answer-offer : (x : Told) → x ≡ told (offerOr6 (views m) (listed (s .index)) (notedSettings n)) → x ≡ told (wantedBy (length m) (views m) (meaning s) n)
+        answer-offer x q = q ∙ ap told (sym (checked-pass turnedBack (recordNeeds n) _ both) ∙ sym on)

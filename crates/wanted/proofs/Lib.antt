@@ -1,0 +1,3 @@
+pub mod Laws
+pub mod Noted
+pub mod Serves

@@ -1,0 +1,225 @@
+-- Every answer serves: the group leads to the wanted settings, nothing shorter does, an append takes it, and 'none' means that nothing of at
+-- most 96 entries leads there.
+use mathlib.Core.Path.{_≡_, refl, sym, ap, _∙_, subst}
+use mathlib.Core.Bool.{Bool, true, false, cond}
+use mathlib.Core.List.{List, [], _∷_}
+use Prim.Native.Nat.{ℕ, suc, _≤_, _<_}
+use native.Mathlib.Omega.{arith}
+use lib.ListN.{length}
+use lib.Dec.{leb, ltb, eqb}
+use borrow.Author.Tests.{le-leb, eq-eqb, ne-eqb, leb-true, leb-false}
+use Rattle.lists.specs.declared.Cell.{Cell}
+use Rattle.lists.specs.Lists.{all, every}
+use Rattle.lists.specs.Needs.{Need, checked}
+use Rattle.lists.specs.Cells.{Entry, Setting, keysOf, wordsOf}
+use Rattle.lists.proofs.Laws.{by-cases, and-l, and-r, and-both, numbered, all-weaken, every-at, tests, checked-cases, length-keys, length-words}
+use Rattle.page.specs.Pages.{View}
+use Rattle.flash.specs.Medium.{views}
+use Rattle.index.specs.Index.{rising, assignAll, within, removalsOk}
+use Rattle.index.proofs.Keys.{within-same}
+use Rattle.nodes.specs.Nodes.{words}
+use Rattle.nodes.proofs.Alive.{keys-words, words-length, rising-words, all-words}
+use Rattle.state.specs.declared.State.{State}
+use Rattle.state.specs.State.{Held, placeFit, indexFit, fit, meaning}
+use Rattle.calls.specs.Calls.{zip, listsOk}
+use Rattle.records.specs.declared.Record.{Record}
+use Rattle.records.specs.Records.{settingsOf}
+use Rattle.wanted_group.specs.Group.{isValve, groupFor, differing}
+use Rattle.wanted_group.proofs.Leads.{group-leads}
+use Rattle.wanted_group.proofs.Fewest.{group-length, leads-length}
+use Rattle.wanted_group.proofs.Accepted.{group-removals-ok, group-within}
+use Rattle.wanted.specs.declared.Offered.{Offered}
+use Rattle.wanted.specs.Wanted.{Offer, turnedBack, none, group, present, valvesOk, fewRecords, wantedNeeds, offerFor, wantedOf, Told, told, Offers}
+use Rattle.wanted.specs.Serves.{LeadsTo, Fewest, Appendable, Far, Serves, Served, offerOf, ServedByCall}
+use Rattle.wanted.proofs.Laws.{all-valves}
+
+-- ---- the kinds of answers
+
+abbrev kind : Offer → ℕ
+kind (turnedBack n) = 0
+kind none = 1
+kind (group es) = 2
+
+other : {P : Type 0} {a b : Offer} → (kind a ≡ kind b → ⊥) → a ≡ b → P
+other n e = absurd (n (ap kind e))
+
+abbrev entries : Offer → List Entry
+entries (turnedBack n) = []
+entries none = []
+entries (group es) = es
+
+-- a refusal claims nothing
+serves-refused : (v : List View) (s : Held) (w : List Setting) (n : ℕ) → Serves v s w (turnedBack n)
+serves-refused v s w n =
+    record {
+      shortest = λ es e. other (λ z. absurd (omega (arith, z))) e;
+      appends = λ es e h. other (λ z. absurd (omega (arith, z))) e;
+      none-far = λ e. other (λ z. absurd (omega (arith, z))) e;
+      far-none = λ h f. absurd (h n refl);
+      nothing-differs = λ h e. absurd (h n refl);
+    }
+
+-- ---- entries as two lists
+
+zip-both : (es : List Cell) → zip (keysOf es) (wordsOf es) ≡ es
+unfolding zip keysOf wordsOf
+zip-both [] = refl
+zip-both (e ∷ es) = ap (λ (t : List Cell). e ∷ t) (zip-both es)
+
+lists-ok : (es : List Cell) → 1 ≤ length es → length es ≤ 96 → listsOk (keysOf es) (wordsOf es) ≡ true
+unfolding listsOk every
+lists-ok es low few =
+    let k = length-keys es in
+    let w = length-words es in
+    let same : length (keysOf es) ≡ length (wordsOf es) = k ∙ sym w in
+    let least : 1 ≤ length (keysOf es) = omega (arith, k, low) in
+    let most : length (keysOf es) ≤ 96 = omega (arith, k, few) in
+    and-both (eq-eqb _ _ same) (and-both (le-leb _ _ least) (and-both (le-leb _ _ most) refl))
+
+no-entries : (es : List Cell) → length es ≤ 0 → es ≡ []
+no-entries [] h = refl
+no-entries (e ∷ es) h = absurd (omega (arith, h))
+
+-- ---- an answer that is not a refusal
+
+module _ (v : List View) (s : Held) (w : List Setting) (f : fit v s ≡ true) (r : valvesOk w ≡ true) (few : fewRecords w ≡ true) where
+  index-fit : indexFit (s .head .blocks) (s .index) ≡ true
+  unfolding fit
+  index-fit = every-at 1 _ f
+
+  present-rises : rising (present v s) ≡ true
+  unfolding indexFit rising
+  present-rises = rising-words v 0 (s .index) ∙ every-at 1 _ index-fit
+
+  present-valves : all isValve (present v s) ≡ true
+  unfolding isValve
+  present-valves = all-words (λ k. ltb k 32768) v (s .index) ∙ all-valves (s .head .blocks) (s .index) index-fit
+
+  present-few : length (present v s) ≤ 192
+  unfolding indexFit
+  present-few = let z = words-length v (s .index) in let y = leb-true (length (s .index)) 192 (every-at 0 _ index-fit) in omega (arith, z, y)
+
+  wanted-rises : rising w ≡ true
+  unfolding valvesOk
+  wanted-rises = every-at 0 _ r
+
+  wanted-valves : all isValve w ≡ true
+  unfolding valvesOk
+  wanted-valves = every-at 1 _ r
+
+  wanted-few : length w ≤ 192
+  unfolding fewRecords
+  wanted-few = leb-true (length w) 192 few
+
+  abbrev g : List Entry
+  g = groupFor (present v s) w
+
+  long : length g ≡ differing (present v s) w
+  long = group-length (present v s) w present-rises wanted-rises present-valves wanted-valves
+
+  -- every list that leads there has an entry for each valve that differs
+  least : (fs : List Entry) → LeadsTo (present v s) w fs → differing (present v s) w ≤ length fs
+  unfolding LeadsTo
+  least fs h = leads-length (present v s) w fs present-rises h
+
+  leads : LeadsTo (present v s) w g
+  unfolding LeadsTo
+  leads = group-leads (present v s) w present-rises wanted-rises wanted-valves
+
+  fewest : Fewest (present v s) w g
+  fewest =
+      record {
+        leads = leads;
+        fewest = λ fs h. let z = least fs h in let y = long in omega (arith, z, y);
+        most = group-within (present v s) w present-rises wanted-rises wanted-valves present-few wanted-few;
+      }
+
+  -- no entry leads where nothing differs
+  same-least : present v s ≡ w → differing (present v s) w ≤ 0
+  unfolding LeadsTo assignAll
+  same-least e = least [] e
+
+  appendable : differing (present v s) w ≤ 96 → 1 ≤ length g → Appendable (s .index) g
+  appendable h low =
+      let z = long in
+      record {
+        ten = lists-ok g low (omega (arith, z, h));
+        eleven = ap removalsOk (zip-both g) ∙ group-removals-ok (present v s) w wanted-valves;
+        twelve =
+            ap (within (s .index)) (zip-both g)
+            ∙ within-same (s .index) (present v s) g g (sym (keys-words v (s .index))) refl
+            ∙ group-within (present v s) w present-rises wanted-rises wanted-valves present-few wanted-few;
+      }
+
+  serves-group : differing (present v s) w ≤ 96 → Serves v s w (group g)
+  unfolding Far
+  serves-group h =
+      let z = long in
+      record {
+        shortest = λ es e. subst (Fewest (present v s) w) (ap entries e) fewest;
+        appends = λ es e. subst (λ (t : List Entry). 1 ≤ length t → Appendable (s .index) t) (ap entries e) (appendable h);
+        none-far = λ e. other (λ y. absurd (omega (arith, y))) e;
+        far-none = λ n far. let y = far g leads in absurd (omega (arith, y, z, h));
+        nothing-differs = λ n e. let y = same-least e in ap group (no-entries g (omega (arith, y, z)));
+      }
+
+  serves-none : 96 < differing (present v s) w → Serves v s w none
+  unfolding Far
+  serves-none h =
+      record {
+        shortest = λ es e. other (λ y. absurd (omega (arith, y))) e;
+        appends = λ es e. other (λ y. absurd (omega (arith, y))) e;
+        none-far = λ e fs l. let y = least fs l in omega (arith, y, h);
+        far-none = λ n far. refl;
+        nothing-differs = λ n e. let y = same-least e in absurd (omega (arith, y, h));
+      }
+
+  serves-offer : Serves v s w (offerFor (present v s) w)
+  unfolding offerFor
+  serves-offer =
+      by-cases (leb (differing (present v s) w) 96)
+      (λ b. rw b (serves-group (leb-true (differing (present v s) w) 96 b)))
+      (λ b. rw b (serves-none (leb-false (differing (present v s) w) 96 b)))
+
+-- ---- the definition, and the call
+
+pub serves : Served
+unfolding Served wantedOf tests
+serves n v s w =
+    checked-cases (Serves v s w) turnedBack (wantedNeeds n v s w) (offerFor (present v s) w) (serves-refused v s w)
+    (λ h. serves-offer v s w (every-at 1 _ h) (every-at 2 _ h) (every-at 3 _ h))
+
+-- what an answer says stands for it again, but for a refusal numbered 0
+heard : Told → Offer
+heard t = cond (eqb (t .number) 0) (cond (t .found) (group (t .entries)) none) (turnedBack (t .number))
+
+heard-refused : (n : ℕ) → 1 ≤ n → heard (told (turnedBack n)) ≡ turnedBack n
+unfolding heard told
+heard-refused n h = rw (ne-eqb n 0 (λ e. absurd (omega (arith, h, e))))
+
+heard-offer : (t : Bool) (es : List Entry) → heard (told (cond t (group es) none)) ≡ cond t (group es) none
+unfolding heard told
+heard-offer true es = refl
+heard-offer false es = refl
+
+-- no condition has number 0
+heard-checked : (cs : List Need) (a : Offer) → numbered cs ≡ true → heard (told a) ≡ a → heard (told (checked turnedBack cs a)) ≡ checked turnedBack cs a
+unfolding checked numbered
+heard-checked [] a p e = e
+heard-checked (c ∷ cs) a p e =
+    by-cases (c .holds)
+    (λ b. rw b (heard-checked cs a (and-r (leb 1 (c .number)) (numbered cs) p) e))
+    (λ b. rw b (heard-refused (c .number) (leb-true 1 (c .number) (and-l (leb 1 (c .number)) (numbered cs) p))))
+
+heard-wanted : (n : ℕ) (v : List View) (s : Held) (w : List Setting) → heard (told (wantedOf n v s w)) ≡ wantedOf n v s w
+unfolding wantedOf offerFor numbered
+heard-wanted n v s w =
+    heard-checked (wantedNeeds n v s w) (offerFor (present v s) w) refl (heard-offer (leb (differing (present v s) w) 96) (groupFor (present v s) w))
+
+-- whatever the call answers serves
+pub offers-serve : ServedByCall
+unfolding ServedByCall Served offerOf heard
+offers-serve m s records r e =
+    subst (Serves (views m) (meaning s) (settingsOf records))
+    (sym (ap heard e ∙ heard-wanted (length m) (views m) (meaning s) (settingsOf records)))
+    (serves (length m) (views m) (meaning s) (settingsOf records))

@@ -1,0 +1,185 @@
+-- Conditions 11 and 12 accept the group.
+use mathlib.Core.Path.{_≡_, refl, sym, ap, _∙_}
+use mathlib.Core.Bool.{Bool, true, false, cond, _&&_}
+use mathlib.Core.Option.{Option, none, some}
+use mathlib.Core.List.{List, [], _∷_, _++_}
+use Prim.Native.Nat.{ℕ, suc, _+_, _-_, _≤_}
+use native.Mathlib.Omega.{arith}
+use lib.ListN.{length}
+use lib.Dec.{leb, ltb, eqb}
+use borrow.Author.Tests.{le-leb, le-ltb, eq-eqb}
+use Rattle.lists.specs.declared.Cell.{Cell}
+use Rattle.lists.specs.Lists.{all, isSome}
+use Rattle.lists.specs.Cells.{cell}
+use Rattle.lists.proofs.Laws.{by-cases, and-l, and-r, and-both, all-head, all-tail, all-cons, true-false}
+use Rattle.index.specs.Index.{lookup, risingFrom, rising, assign, assignAll, remove, within, removalOk, removalsOk}
+use Rattle.index.proofs.Rising.{rising-tail, assign-rising}
+use Rattle.index.proofs.Assigned.{lookup-below}
+use Rattle.wanted_group.specs.Group.{isValve, removalsFor, settingsFor, groupFor}
+use Rattle.wanted_group.proofs.Lookup.{valve, three, lookup-none, lookup-here, lookup-past, lookup-before, lookup-other, assign-else}
+use Rattle.wanted_group.proofs.Leads.{by-eq, gone, told-removals, lookup-all, all-rising, removal, setting-valve, isWanted, stands, removals-kept, removals-gone, settings-same, settings-new}
+
+-- ---- 11
+
+removal-ok : (x : Cell) → removalOk (removal x) ≡ true
+unfolding removalOk
+removal-ok x = by-cases (ltb (x .key + 32768) 32768) (λ b. rw b) (λ b. rw (b, eq-eqb 0 0 refl))
+
+setting-ok : (y : Cell) → isValve y ≡ true → removalOk y ≡ true
+unfolding removalOk isValve
+setting-ok y h = rw h
+
+ok-none : removalsOk [] ≡ true
+unfolding removalsOk all
+ok-none = refl
+
+ok-cons : (e : Cell) (es : List Cell) → removalOk e ≡ true → removalsOk es ≡ true → removalsOk (e ∷ es) ≡ true
+unfolding removalsOk
+ok-cons e es p q = all-cons removalOk e es p q
+
+ok-append : (es fs : List Cell) → removalsOk es ≡ true → removalsOk fs ≡ true → removalsOk (es ++ fs) ≡ true
+unfolding removalsOk
+ok-append [] fs p q = q
+ok-append (e ∷ es) fs p q = all-cons removalOk e (es ++ fs) (all-head removalOk e es p) (ok-append es fs (all-tail removalOk e es p) q)
+
+ok-removals : (s w : List Cell) → removalsOk (removalsFor s w) ≡ true
+unfolding removalsFor
+ok-removals [] w = ok-none
+ok-removals (x ∷ xs) w =
+    by-cases (isWanted w x)
+    (λ b. ap removalsOk (removals-kept x xs w b) ∙ ok-removals xs w)
+    (λ b. ap removalsOk (removals-gone x xs w b) ∙ ok-cons (removal x) (removalsFor xs w) (removal-ok x) (ok-removals xs w))
+
+ok-settings : (s w : List Cell) → all isValve w ≡ true → removalsOk (settingsFor s w) ≡ true
+unfolding settingsFor
+ok-settings s [] a = ok-none
+ok-settings s (y ∷ ys) a =
+    let rest = ok-settings s ys (all-tail isValve y ys a) in
+    by-cases (stands s y)
+    (λ b. ap removalsOk (settings-same s y ys b) ∙ rest)
+    (λ b. ap removalsOk (settings-new s y ys b) ∙ ok-cons y (settingsFor s ys) (setting-ok y (all-head isValve y ys a)) rest)
+
+pub group-removals-ok : (s w : List Cell) → all isValve w ≡ true → removalsOk (groupFor s w) ≡ true
+unfolding groupFor
+group-removals-ok s w a = ok-append (removalsFor s w) (settingsFor s w) (ok-removals s w) (ok-settings s w a)
+
+-- ---- a rising list whose valves are all valves of another is not longer
+
+abbrev Part : List Cell → List Cell → Type 0
+Part l m = (k : ℕ) → isSome (lookup k l) ≡ true → isSome (lookup k m) ≡ true
+
+some-true : (x : ℕ) → isSome (some x) ≡ true
+unfolding isSome
+some-true x = refl
+
+none-false : isSome {A = ℕ} none ≡ false
+unfolding isSome
+none-false = refl
+
+here-true : (k : ℕ) (x : Cell) (l : List Cell) → k ≡ x .key → isSome (lookup k (x ∷ l)) ≡ true
+here-true k x l h = ap isSome (lookup-here k x l h) ∙ some-true (x .val)
+
+-- no word under this key
+absent : {P : Type 0} (k : ℕ) (l : List Cell) → isSome (lookup k l) ≡ true → lookup k l ≡ none → P
+absent k l h e = true-false h (ap isSome e ∙ none-false)
+
+part-length : (m l : List Cell) (p q : ℕ) → risingFrom p l ≡ true → risingFrom q m ≡ true → Part l m → length l ≤ length m
+part-length [] [] p q r s h = omega arith
+part-length [] (x ∷ xs) p q r s h = absent (x .key) [] (h (x .key) (here-true (x .key) x xs refl)) (lookup-none (x .key))
+part-length (y ∷ ys) [] p q r s h = omega arith
+part-length (y ∷ ys) (x ∷ xs) p q r s h =
+    let tail = rising-tail p x xs r in
+    let tail₂ = rising-tail q y ys s in
+    three (x .key) (y .key)
+    (λ g. absent (x .key) (y ∷ ys) (h (x .key) (here-true (x .key) x xs refl)) (lookup-before (x .key) y ys g))
+    (λ g.
+    let z = part-length ys xs (suc (x .key)) (suc (y .key)) tail tail₂
+    (λ k e. three k (x .key)
+    (λ c. absent k xs e (lookup-below k (suc (x .key)) xs (omega (arith, c)) tail))
+    (λ c. absent k xs e (lookup-below k (suc (x .key)) xs (omega (arith, c)) tail))
+    (λ c. ap isSome (sym (lookup-past k y ys (omega (arith, c, g)))) ∙ h k (ap isSome (lookup-past k x xs c) ∙ e))) in
+    omega (arith, z))
+    (λ g.
+    let z = part-length ys (x ∷ xs) p (suc (y .key)) r tail₂
+    (λ k e. three k (x .key)
+    (λ c. absent k (x ∷ xs) e (lookup-before k x xs c))
+    (λ c. ap isSome (sym (lookup-past k y ys (omega (arith, c, g)))) ∙ h k e)
+    (λ c. ap isSome (sym (lookup-past k y ys (omega (arith, c, g)))) ∙ h k e)) in
+    omega (arith, z))
+
+-- ---- 12: removals only shorten, and while settings are made every valve set is a wanted one
+
+within-none : (l : List Cell) → within l [] ≡ true
+unfolding within
+within-none l = refl
+
+within-cons : (l : List Cell) (e : Cell) (es : List Cell) → length (assign l e) ≤ 192 → within (assign l e) es ≡ true → within l (e ∷ es) ≡ true
+unfolding within
+within-cons l e es h p = and-both (le-leb _ _ h) p
+
+within-append : (l es fs : List Cell) → within l es ≡ true → within (assignAll l es) fs ≡ true → within l (es ++ fs) ≡ true
+unfolding within assignAll
+within-append l [] fs p q = q
+within-append l (e ∷ es) fs p q =
+    let first = and-l (leb (length (assign l e)) 192) (within (assign l e) es) p in
+    let rest = and-r (leb (length (assign l e)) 192) (within (assign l e) es) p in
+    and-both first (within-append (assign l e) es fs rest q)
+
+remove-length : (k : ℕ) (l : List Cell) → length (remove k l) ≤ length l
+unfolding remove
+remove-length k [] = omega arith
+remove-length k (x ∷ l) =
+    by-cases (ltb k (x .key))
+    (λ b. rw b (omega arith))
+    (λ b. by-cases (eqb k (x .key)) (λ c. rw (b, c) (omega arith)) (λ c. rw (b, c) (let z = remove-length k l in omega (arith, z))))
+
+removal-shorter : (l : List Cell) (x : Cell) → length (assign l (removal x)) ≤ length l
+unfolding assign
+removal-shorter l x =
+    let h : 32768 ≤ x .key + 32768 = omega arith in rw (le-ltb (x .key + 32768) 32768 h) (remove-length (x .key + 32768 - 32768) l)
+
+within-removals : (s w l : List Cell) → length l ≤ 192 → within l (removalsFor s w) ≡ true
+unfolding removalsFor
+within-removals [] w l h = within-none l
+within-removals (x ∷ xs) w l h =
+    by-cases (isWanted w x)
+    (λ b. ap (within l) (removals-kept x xs w b) ∙ within-removals xs w l h)
+    (λ b.
+    let z = removal-shorter l x in
+    let u : length (assign l (removal x)) ≤ 192 = omega (arith, z, h) in
+    ap (within l) (removals-gone x xs w b) ∙ within-cons l (removal x) (removalsFor xs w) u (within-removals xs w (assign l (removal x)) u))
+
+within-settings : (s w ys l : List Cell) (n : ℕ) → length w ≤ 192 → rising w ≡ true → rising l ≡ true → risingFrom n ys ≡ true
+    → all isValve ys ≡ true → Part ys w → Part l w → within l (settingsFor s ys) ≡ true
+unfolding settingsFor rising
+within-settings s w [] l n few q r t a in-y in-l = within-none l
+within-settings s w (y ∷ ys) l n few q r t a in-y in-l =
+    let tail = rising-tail n y ys t in
+    let later : Part ys w = λ k e. in-y k (by-eq k (y .key) (λ c. here-true k y ys c) (λ c. ap isSome (lookup-other k y ys tail c) ∙ e)) in
+    by-cases (stands s y)
+    (λ b. ap (within l) (settings-same s y ys b) ∙ within-settings s w ys l (suc (y .key)) few q r tail (all-tail isValve y ys a) later in-l)
+    (λ b.
+    let named : valve y ≡ y .key = setting-valve y (all-head isValve y ys a) in
+    let inside : Part (assign l y) w
+    = λ k e. by-eq k (valve y) (λ c. in-y k (here-true k y ys (c ∙ named))) (λ c. in-l k (ap isSome (sym (assign-else l y k r c)) ∙ e)) in
+    let up = assign-rising l y r in
+    let u : length (assign l y) ≤ 192 = let z = part-length w (assign l y) 0 0 up q inside in omega (arith, z, few) in
+    let rest = within-settings s w ys (assign l y) (suc (y .key)) few q up tail (all-tail isValve y ys a) later inside in
+    ap (within l) (settings-new s y ys b) ∙ within-cons l y (settingsFor s ys) u rest)
+
+left-part : (a b : Option ℕ) → isSome (cond (gone a b) none a) ≡ true → isSome b ≡ true
+unfolding isSome
+left-part none none h = h
+left-part none (some y) h = refl
+left-part (some x) none h = h
+left-part (some x) (some y) h = refl
+
+-- "At most 192 valves are set, counted after each entry in order."
+pub group-within : (s w : List Cell) → rising s ≡ true → rising w ≡ true → all isValve w ≡ true → length s ≤ 192 → length w ≤ 192
+    → within s (groupFor s w) ≡ true
+unfolding groupFor rising
+group-within s w r q a few few₂ =
+    let left : Part (assignAll s (removalsFor s w)) w
+    = λ k e. left-part (lookup k s) (lookup k w) (ap isSome (sym (lookup-all s (removalsFor s w) k r ∙ told-removals s w k 0 (lookup k s) r)) ∙ e) in
+    within-append s (removalsFor s w) (settingsFor s w) (within-removals s w s few)
+    (within-settings s w w (assignAll s (removalsFor s w)) 0 few₂ q (all-rising s (removalsFor s w) r) q a (λ k e. e) left)

@@ -1,0 +1,6 @@
+pub mod Lookup
+pub mod Leads
+pub mod Counting
+pub mod Fewest
+pub mod Accepted
+pub mod Turns

@@ -1,0 +1,19 @@
+-- A group as the code has it.
+use mathlib.Core.Bool.{Bool, true, false, cond}
+use mathlib.Core.List.{List, []}
+use lib.ListN.{length}
+use lib.Dec.{leb}
+use Rattle.lists.specs.Cells.{Entry, listed}
+use Rattle.wanted_group.specs.declared.Limited.{Limited}
+
+-- whether there are at most as many as a group may have, and then the entries
+pub record Cut : Type 0 where
+  pub found : Bool
+  pub entries : List Entry
+
+unfoldable pub limited : List Entry → Cut
+limited es = cond (leb (length es) 96) (record { found = true; entries = es }) (record { found = false; entries = [] })
+
+-- what the code's struct says
+abbrev pub cutBy : Limited → Cut
+cutBy r = record { found = r .found; entries = listed (r .cells) }
