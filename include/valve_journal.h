@@ -32,7 +32,7 @@
  *   8  an operation is pending
  *   9  no operation is pending
  *  10  the lists of a group differ in length, or have no entry, or over 96; or a flush of an empty buffer
- *  11  a removal's word is not 0
+ *  11  a removal's word is not 0, or valve 0 is set
  *  12  more than 192 valves would be set, those of the buffer counted
  *  13  too few pages are available
  *  14  too few serials are left: the next serial and the pages make more than 2^64 - 1
@@ -224,8 +224,9 @@ VjWordPlace vj_word(const uint8_t *medium, size_t medium_length, VjState state, 
 /* The group that leads from the present settings, those that vj_opening gives, to the wanted ones: removals of the valves that are set and not
  * wanted, ascending, then settings of the wanted valves that do not stand so, ascending. Appended, it leaves exactly the wanted settings, and
  * no group with fewer entries does. It has no entry where nothing differs (vj_append refuses such a group with 10). Where more than 96 valves
- * differ there is none: the change takes more than one group. The records may be any, and as many as they are. Refuses 1, 7, 19, 20 and, where
- * the address of any valve that is set lacks its entry, 6, in this order. */
+ * differ there is none: the change takes more than one group. The records may be any, and as many as they are. Refuses 1, 7, 19, 20, 6 where the
+ * address of any valve that is set lacks its entry, and 11 where valve 0 would have to be set, in this order. A valve 0 that an old medium has set
+ * may be wanted with the word that it has, or not wanted, which removes it. */
 VjWanted vj_wanted(const uint8_t *medium, size_t medium_length, VjState state, const VjRecord *records, size_t records_length);
 
 /* The next five calls begin an operation. The medium stays as it is: vj_step does the work. */

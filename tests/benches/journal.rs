@@ -111,7 +111,7 @@ fn wanted<C: Calls>(lent: &mut Lent<C>) {
 
 /// The keys and words of the n-th group.
 fn some_group<const ENTRIES: usize>(group: usize) -> ([u16; ENTRIES], [u64; ENTRIES]) {
-    let key = |entry: usize| ((7 * group + 5 * entry) % 180) as u16;
+    let key = |entry: usize| (1 + (7 * group + 5 * entry) % 180) as u16;
     let word = |entry: usize| (1000 * group + entry) as u64;
     (std::array::from_fn(key), std::array::from_fn(word))
 }

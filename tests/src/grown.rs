@@ -60,6 +60,7 @@ fn grow(blocks: usize, how: How) -> Life {
     let mut random = Random::new((blocks as u64) << 2 | how as u64);
     let mut life = Life::blank(&mut random, blocks);
     finished(&mut life, &Action::Format);
+    assert!(life.set_valve_0(1000), "by the rules of before");
     let pages = (blocks * BLOCK_PAGES) as u64;
     match how {
         How::Full => while write_group(&mut random, &mut life) {},
@@ -96,10 +97,10 @@ fn finished(life: &mut Life, action: &Action) -> bool {
     true
 }
 
-/// A group, appended or flushed: whether it passed. 180 valves are used.
+/// A group, appended or flushed: whether it passed. Valves below 180 are used.
 fn write_group(random: &mut Random, life: &mut Life) -> bool {
     let length = random.one_of(&[1, 24, 25, 96]);
-    let valve = |random: &mut Random| random.below(180) as u16;
+    let valve = |random: &mut Random| random.from_to(1, 179) as u16;
     let keys: Vec<u16> = (0..length).map(|_| valve(random)).collect();
     let words: Vec<u64> = keys.iter().map(|_| random.word()).collect();
     if length == 1 && random.one_in(2) {

@@ -4,6 +4,7 @@
 //! * [`reader`]: pages, recovery, the log, readings of a state, fitness.
 //! * [`writer`]: format, append, commit, collect, buffer, flush and step.
 //! * [`history`]: the plain history that recovery is held to.
+//! * [`before`]: pages that set valve 0, written by hand.
 //! * [`grown`]: journals of many blocks, written for long.
 //! * [`random`]: media, cuts and damage made by chance, always the same ones
 //!   for the same seed.
@@ -13,6 +14,7 @@
 
 #![deny(unsafe_code)]
 
+pub mod before;
 pub mod calls;
 pub mod grown;
 pub mod history;

@@ -1,6 +1,7 @@
 //! Media by chance: lives of a journal with cuts, damage, and media sketched
 //! page by page, one for each refusal. The same seed gives the same media.
 
+use crate::before;
 use crate::grown::{some_blocks, some_grown, FEW_BLOCKS};
 use crate::history::{Event, History};
 use crate::reader::{
@@ -298,6 +299,24 @@ impl Life {
         put_page(&mut self.medium, 0, &base);
     }
 
+    /// A group that sets valve 0, written by the rules of before, if a page of
+    /// the head block and more are left and nothing is under way: whether it was.
+    pub fn set_valve_0(&mut self, word: u64) -> bool {
+        let (Some(state), Some(history)) = (&mut self.state, &mut self.history) else {
+            return false;
+        };
+        let room = state.next_page < BLOCK_PAGES && state.index.len() < MAX_VALVES;
+        let serials = state.next_serial < u64::MAX - 1;
+        let idle = state.pending.is_none() && self.buffer == [0xFF; PAGE_BYTES];
+        if !(room && serials && idle && reader::available(&self.medium, state) > BLOCK_PAGES) {
+            return false;
+        }
+        before::append(&mut self.medium, state, &[Entry { key: 0, word }]);
+        history.feed(Event::Append { keys: &[0], words: &[word] });
+        history.feed(Event::StepOnPage);
+        true
+    }
+
     fn buffer_is_empty(&self) -> bool {
         self.buffer == [0xFF; PAGE_BYTES]
     }
@@ -458,16 +477,19 @@ impl Life {
         entries.map(|entry| (entry.key, entry.word)).unzip()
     }
 
-    /// An append with lists that differ, or a removal with a word.
+    /// An append with lists that differ, a removal with a word, or an entry that
+    /// sets valve 0.
     fn spoilt_append(&self, random: &mut Random) -> Action {
         let mut action = self.some_append(random, 1, GROUP_ENTRIES);
         if let Action::Append { keys, words } = &mut action {
             let at = random.below(words.len());
-            if random.one_in(2) {
-                words.truncate(at);
-            } else {
-                keys[at] |= REMOVAL;
-                words[at] = random.word();
+            match random.below(4) {
+                0 | 1 => words.truncate(at),
+                2 => keys[at] = 0,
+                _ => {
+                    keys[at] |= REMOVAL;
+                    words[at] = random.word();
+                }
             }
         }
         action
@@ -621,13 +643,15 @@ impl Life {
     }
 }
 
-/// An entry of a valve below `valves`; one in so many is a removal.
-fn some_entry(random: &mut Random, valves: usize, removal_one_in: usize) -> Entry {
+/// An entry of a valve below `valves`; one in so many is a removal. Valve 0 is
+/// set very seldom.
+pub fn some_entry(random: &mut Random, valves: usize, removal_one_in: usize) -> Entry {
     let valve = random.below(valves) as u16;
     if random.one_in(removal_one_in) {
         Entry { key: valve + REMOVAL, word: 0 }
     } else {
-        Entry { key: valve, word: random.word() }
+        let least = u16::from(!random.one_in(2000));
+        Entry { key: valve.max(least), word: random.word() }
     }
 }
 
@@ -1319,8 +1343,11 @@ pub fn some_records(random: &mut Random, medium: &[u8], state: &State) -> Vec<Re
     let (valves, most) = (random.one_of(&[200, 32768]), random.one_of(&[192, 192, 193]));
     for _ in 0..random.below(added + 1) {
         if records.len() < most {
-            records.insert(random.below(valves) as u16, random.word());
+            records.insert(random.from_to(1, valves - 1) as u16, random.word());
         }
+    }
+    if random.one_in(12) && records.len() < most {
+        records.insert(0, random.word());
     }
     let records = records.into_iter().map(|(valve, word)| Record { valve, word });
     let mut records: Vec<Record> = records.collect();
@@ -1408,7 +1435,7 @@ fn some_pending_append(random: &mut Random) -> Pending {
         entry.word = if entry.removes() { 0 } else { random.word() };
     }
     if length > 0 && random.one_in(4) {
-        entries[0] = REMOVED_WITH_WORD;
+        entries[length / 2] = random.one_of(&[REMOVED_WITH_WORD, Entry { key: 0, word: 0 }]);
     }
     let pages = MAX_BLOCKS * BLOCK_PAGES;
     let written = (0..random.below(5)).map(|_| random.below(pages) as u32).collect();
@@ -1433,12 +1460,15 @@ pub fn some_buffer(random: &mut Random) -> Vec<u8> {
     buffer
 }
 
-/// Puts groups into an empty buffer.
+/// Puts groups into an empty buffer; now and then one sets valve 0.
 fn gather_some(random: &mut Random, buffer: &mut [u8]) {
     let (valves, mut held) = (random.one_of(&[4, 200, 32768]), 0);
     for _ in 0..random.from_to(1, 6) {
         let length = random.from_to(1, 5).min(BUFFER_ENTRIES - held);
-        let group: Vec<Entry> = (0..length).map(|_| some_entry(random, valves, 4)).collect();
+        let mut group: Vec<Entry> = (0..length).map(|_| some_entry(random, valves, 4)).collect();
+        if length > 0 && random.one_in(30) {
+            group[length - 1].key = 0;
+        }
         writer::gather(buffer, held, &group);
         held += length;
     }

@@ -60,7 +60,7 @@ fn the_bytes_of_a_page() {
 fn any_number_of_groups_to_sixteen_entries() {
     for lengths in [&[1][..], &[16], &[1; 16], &[15, 1], &[1, 15], &[3, 5, 8], &[8, 7]] {
         let (medium, state) = formatted(4);
-        let (mut buffer, mut groups, mut first) = (EMPTY, Vec::new(), 0);
+        let (mut buffer, mut groups, mut first) = (EMPTY, Vec::new(), 1);
         for &length in lengths {
             let group = valves(first, length);
             gather(&medium, &state, &mut buffer, &group).expect("a group");
@@ -70,8 +70,8 @@ fn any_number_of_groups_to_sixteen_entries() {
         let groups: Vec<&[(u16, u64)]> = groups.iter().map(Vec::as_slice).collect();
         assert_eq!(Page::from_bytes(&buffer).expect("a page").groups(), entries(&groups));
         assert_eq!(buffer, holding(&groups));
-        let left = 16 - first;
-        assert_eq!(gather(&medium, &state, &mut buffer, &valves(0, left + 1)), refused(23));
+        let left = 17 - first;
+        assert_eq!(gather(&medium, &state, &mut buffer, &valves(1, left + 1)), refused(23));
     }
 }
 

@@ -148,7 +148,7 @@ fn every_page_in_turn<C: Calls>() {
     for blocks in BLOCK_COUNTS {
         let (mut medium, state) = formatted(blocks);
         let mut state = C::of(&state);
-        let (keys, words) = lists(&valves(0, 96));
+        let (keys, words) = lists(&valves(1, 96));
         let mut page = 1;
         while page + 4 + 16 <= 16 * blocks {
             C::append(&medium, &mut state, &EMPTY, &keys, &words).expect("append");
@@ -166,7 +166,7 @@ fn every_page_in_turn<C: Calls>() {
         let (mut k, mut w, mut g) = (vec![0; most], vec![0; most], vec![0; most]);
         let changes = 24 * (page - 1);
         assert_eq!(C::log_into(&medium, &mut k, &mut w, &mut g), Ok(changes));
-        assert!((0..changes).all(|i| (w[i], g[i]) == ((i % 96) as u64, (i / 96) as u32)));
+        assert!((0..changes).all(|i| (w[i], g[i]) == (1 + (i % 96) as u64, (i / 96) as u32)));
     }
 }
 
@@ -206,7 +206,7 @@ fn collections_of_the_last_block<C: Calls>() {
         let (mut medium, mut state) = formatted(blocks);
         (state.head, state.next_page) = (blocks - 2, 16);
         for _ in 0..4 {
-            let (keys, words) = lists(&valves(0, 96));
+            let (keys, words) = lists(&valves(1, 96));
             writer::append(&medium, &mut state, &EMPTY, &keys, &words).expect("append");
             finish(&mut medium, &mut state);
         }
@@ -218,7 +218,7 @@ fn collections_of_the_last_block<C: Calls>() {
 
         let first = 16 * blocks - 4;
         let offset = first * PAGE_BYTES + 64 + 8;
-        assert_eq!(C::word_at(&medium, &state, &EMPTY, 1), Ok(WordAt::Medium(offset)));
+        assert_eq!(C::word_at(&medium, &state, &EMPTY, 2), Ok(WordAt::Medium(offset)));
         assert_eq!(C::open(&medium, &state, 95), Ok(95));
         // Block 0 has fewer live nodes, and then is clean.
         assert_eq!(C::pick(&medium, &state), Ok(Some(0)));
@@ -233,7 +233,7 @@ fn collections_of_the_last_block<C: Calls>() {
         assert_eq!(C::pick(&medium, &state), Ok(None));
         let recovered = C::meaning(&C::recover(&medium).expect("recovery"));
         assert_eq!(recovered.index, C::meaning(&state).index);
-        assert!((0..96).all(|valve| C::open(&medium, &state, valve) == Ok(valve.into())));
+        assert!((1..=96).all(|valve| C::open(&medium, &state, valve) == Ok(valve.into())));
     }
 }
 

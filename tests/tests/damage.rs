@@ -74,7 +74,7 @@ fn sketched_media_have_every_answer() {
 /// Hands back the numbers of the refusals.
 fn all_calls(random: &mut Random, medium: &[u8], state: &State) -> Vec<u8> {
     let (block, buffer) = (random.below(state.blocks + 2), some_buffer(random));
-    let (keys, words) = lists(&valves(0, random.one_of(&[1, 2, 16, 30])));
+    let (keys, words) = lists(&valves(1, random.one_of(&[1, 2, 16, 30])));
     let mut numbers = Vec::new();
     let mut note = |result: Result<(), Refused>| {
         numbers.extend(result.err().map(|Refused(number)| number));

@@ -58,7 +58,7 @@ fn records_are_set_by_erases_and_unset_by_recovery_and_format() {
 #[test]
 fn the_erase_sets_its_record_and_nothing_else() {
     let (mut medium, mut state) = recovered();
-    begin_append(&medium, &mut state, &valves(0, 30)).expect("append");
+    begin_append(&medium, &mut state, &valves(1, 30)).expect("append");
     assert_eq!(available(&medium, &state), 48);
     let (lent, mut given) = (medium.clone(), state.clone());
     assert_eq!(one_step(&mut medium, &mut state), step_block(1));

@@ -54,13 +54,13 @@ fn parts_of_the_medium() {
 fn pages_of_an_append() {
     for (entries, pages) in [(24, 1), (25, 2), (96, 4)] {
         let (mut medium, mut state) = formatted(4);
-        let steps = append(&mut medium, &mut state, &valves(0, entries));
+        let steps = append(&mut medium, &mut state, &valves(1, entries));
         assert_eq!(steps.len(), pages);
         let expected: Vec<Touched> = (1..=pages).map(Touched::Page).collect();
         assert_eq!(touched(&steps), expected);
     }
     let (medium, mut state) = formatted(4);
-    assert_eq!(begin_append(&medium, &mut state, &valves(0, 97)), refused(10));
+    assert_eq!(begin_append(&medium, &mut state, &valves(1, 97)), refused(10));
     assert_eq!(begin_append(&medium, &mut state, &[]), refused(10));
 }
 
@@ -68,7 +68,7 @@ fn pages_of_an_append() {
 fn pages_of_a_commit() {
     for (count, pages) in [(0, 1), (24, 1), (25, 2), (192, 8)] {
         let (mut medium, mut state) = formatted(8);
-        for part in valves(0, count).chunks(96) {
+        for part in valves(1, count).chunks(96) {
             append(&mut medium, &mut state, part);
         }
         let serial = state.next_serial;
@@ -119,7 +119,7 @@ fn lengths() {
 #[test]
 fn cut_after_the_first_page_of_thirty_entries() {
     let (mut medium, mut state) = formatted(4);
-    begin_append(&medium, &mut state, &valves(0, 30)).expect("append");
+    begin_append(&medium, &mut state, &valves(1, 30)).expect("append");
     one_step(&mut medium, &mut state).expect("first page");
     let replay = replay(&medium).expect("recovery");
     assert!(replay.log().is_empty());

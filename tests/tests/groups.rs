@@ -31,7 +31,7 @@ struct Entries(u64);
 impl Entries {
     fn next(&mut self) -> Entry {
         self.0 += 1;
-        let valve = (11 * self.0 % 150) as u16;
+        let valve = (1 + 11 * self.0 % 150) as u16;
         if self.0.is_multiple_of(7) {
             Entry { key: valve + REMOVAL, word: 0 }
         } else {

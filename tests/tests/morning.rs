@@ -3,10 +3,10 @@
 
 mod common;
 
-use common::{append, commit, formatted, holding};
+use common::{commit, formatted};
+use journal_tests::before;
 use journal_tests::random::{self, Random};
-use journal_tests::reader::{self, REMOVAL};
-use journal_tests::writer;
+use journal_tests::reader::{self, Entry, REMOVAL};
 use std::collections::BTreeMap;
 use std::io::{ErrorKind, Write};
 use std::process::{Command, Stdio};
@@ -44,26 +44,25 @@ fn same(medium: &[u8], lines: &mut BTreeMap<String, usize>) {
     }
 }
 
-/// A medium whose groups set and remove the first and the last valves; some
-/// stand together on a page.
+/// A medium whose groups set and remove the first and the last valves, 0 too as
+/// by the rules of before; some stand together on a page.
 fn at_the_ends(random: &mut Random) -> Vec<u8> {
     let (mut medium, mut state) = formatted(random.from_to(4, 16));
     for _ in 0..random.below(40) {
         let mut entry = || {
             let valve = random.one_of(&[0, 1, 255, 256, 32766, 32767]);
             if random.one_in(2) {
-                (valve + REMOVAL, 0)
+                Entry { key: valve + REMOVAL, word: 0 }
             } else {
-                (valve, random.word())
+                Entry { key: valve, word: random.word() }
             }
         };
-        let group: Vec<(u16, u64)> = (0..15).map(|_| entry()).collect();
+        let group: Vec<Entry> = (0..15).map(|_| entry()).collect();
         if random.one_in(2) {
-            append(&mut medium, &mut state, &group[random.from_to(10, 14)..]);
+            before::append(&mut medium, &mut state, &group[random.from_to(10, 14)..]);
         } else {
-            let mut buffer = holding(&group.chunks(random.from_to(1, 5)).collect::<Vec<_>>());
-            writer::flush(&medium, &mut state, &buffer).expect("flush");
-            writer::step(&mut medium, &mut state, &mut buffer).expect("a step");
+            let groups: Vec<&[Entry]> = group.chunks(random.from_to(1, 5)).collect();
+            before::flush(&mut medium, &mut state, &groups);
         }
     }
     if random.one_in(4) {

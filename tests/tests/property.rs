@@ -61,6 +61,9 @@ fn run(seed: u64, lives: impl Iterator<Item = (usize, usize)>) -> BTreeMap<Strin
     for (blocks, events) in lives {
         let mut life = Life::on(&mut random, blocks);
         for _ in 0..events {
+            if random.one_in(60) && life.set_valve_0(random.word()) {
+                *happened.entry("valve 0 is set".to_string()).or_insert(0) += 1;
+            }
             let action = life.next_action(&mut random);
             let given = Given::to(&life);
             let outcome = life.act(&action);
@@ -75,13 +78,14 @@ fn run(seed: u64, lives: impl Iterator<Item = (usize, usize)>) -> BTreeMap<Strin
 }
 
 /// What must happen often: erases before a first page, made and cut; flushes,
-/// made and cut both ways; and refusals for what the buffer holds.
+/// made and cut both ways; refusals for what the buffer holds; and valve 0 set by
+/// the rules of before.
 #[rustfmt::skip]
-const OFTEN: [&str; 12] = [
+const OFTEN: [&str; 13] = [
     "erase before a page", "erase before a page, the block being weak",
     "cut inside the erase before a page", "buffer", "flush", "flush finished",
     "cut inside flush", "cut inside flush, complete", "buffer refused 23",
-    "append refused 24", "commit refused 24", "collect refused 24",
+    "append refused 24", "commit refused 24", "collect refused 24", "valve 0 is set",
 ];
 
 #[test]

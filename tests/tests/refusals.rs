@@ -287,6 +287,7 @@ fn small_examples_of_calls() {
     assert_eq!(begin_collect(&medium, &mut state, 4), refused(15));
     assert_eq!(begin_collect(&medium, &mut state, usize::MAX), refused(15));
     assert_eq!(begin_append(&medium, &mut state, &[(32773, 1)]), refused(11));
+    assert_eq!(begin_append(&medium, &mut state, &[(0, 20)]), refused(11));
     assert_eq!(begin_lists(&medium, &mut state, &[5, 6], &[1]), refused(10));
     let mut recovered = recover(&medium).expect("recovery");
     assert_eq!(one_step(&mut medium, &mut recovered), refused(9));
@@ -303,12 +304,12 @@ fn small_examples_of_calls() {
 #[test]
 fn a_193rd_valve() {
     let (mut medium, mut state) = formatted(8);
-    append(&mut medium, &mut state, &valves(0, 96));
-    append(&mut medium, &mut state, &valves(96, 96));
-    assert_eq!(begin_append(&medium, &mut state, &[(192, 1)]), refused(12));
+    append(&mut medium, &mut state, &valves(1, 96));
+    append(&mut medium, &mut state, &valves(97, 96));
+    assert_eq!(begin_append(&medium, &mut state, &[(193, 1)]), refused(12));
     // Taken back by a later entry: refused all the same.
-    assert_eq!(begin_append(&medium, &mut state, &[(192, 1), (32768, 0)]), refused(12));
-    assert_eq!(begin_append(&medium, &mut state, &[(191, 1), (32768, 0), (192, 1)]), Ok(()));
+    assert_eq!(begin_append(&medium, &mut state, &[(193, 1), (32769, 0)]), refused(12));
+    assert_eq!(begin_append(&medium, &mut state, &[(192, 1), (32769, 0), (193, 1)]), Ok(()));
 }
 
 #[test]
@@ -318,8 +319,8 @@ fn serials_run_out() {
     assert_eq!(begin_append(&medium, &mut state, &[(5, 1)]), refused(14));
     assert_eq!(begin_commit(&medium, &mut state), refused(14));
     state.next_serial = u64::MAX - 1;
-    assert_eq!(begin_append(&medium, &mut state, &valves(0, 25)), refused(14));
-    assert_eq!(begin_append(&medium, &mut state, &valves(0, 24)), Ok(()));
+    assert_eq!(begin_append(&medium, &mut state, &valves(1, 25)), refused(14));
+    assert_eq!(begin_append(&medium, &mut state, &valves(1, 24)), Ok(()));
     // A step asks for one page only.
     let mut medium = medium;
     state.pending = pending_append(vec![FIVE; 96], 0);
@@ -334,8 +335,8 @@ fn serials_run_out() {
 #[test]
 fn order_of_append() {
     let (mut medium, mut state) = formatted(4);
-    append(&mut medium, &mut state, &valves(0, 96));
-    append(&mut medium, &mut state, &valves(96, 96));
+    append(&mut medium, &mut state, &valves(1, 96));
+    append(&mut medium, &mut state, &valves(97, 96));
     for word in 0..39 {
         append(&mut medium, &mut state, &[(5, word)]);
     }
@@ -353,7 +354,7 @@ fn order_of_append() {
 /// A journal whose block 0 is collectible and holds 48 live nodes: two pages.
 fn collectible_block_0(blocks: usize) -> (Vec<u8>, State) {
     let (mut medium, mut state) = formatted(blocks);
-    append(&mut medium, &mut state, &valves(0, 48));
+    append(&mut medium, &mut state, &valves(1, 48));
     for word in 0..13 {
         append(&mut medium, &mut state, &[(99, word)]);
     }

@@ -73,7 +73,7 @@ impl Table {
 
     /// The readings of a state, and what can be begun with it.
     fn state(&mut self, medium: &[u8], state: &VjState, buffer: &[u8; 256]) {
-        let (keys, words) = lists(&valves(0, 96));
+        let (keys, words) = lists(&valves(1, 96));
         let (m, b, empty) = (Lent::of(medium), Lent::of(buffer), Lent::of(&EMPTY));
         let (k, w) = (Lent::of(&keys), Lent::of(&words));
         note!(self, vj_page(m.at(), m.len, 4095));
@@ -234,7 +234,7 @@ fn the_deepest_stack_of_each_call() {
     media.iter().for_each(|medium| table.recovery(medium));
 
     let (medium, state) = crowded();
-    let held = common::holding(&[&valves(0, 16)]);
+    let held = common::holding(&[&valves(1, 16)]);
     let recovered = reader::recover(&medium).expect("recovery");
     for state in [&state, &recovered] {
         table.state(&medium, &Proved::of(state), &held);
@@ -243,7 +243,7 @@ fn the_deepest_stack_of_each_call() {
             call(&mut begun);
             Proved::of(&begun)
         };
-        let (keys, words) = lists(&valves(0, 96));
+        let (keys, words) = lists(&valves(1, 96));
         let append = begun(&|s| writer::append(&medium, s, &EMPTY, &keys, &words).expect("append"));
         let commit = begun(&|s| writer::commit(&medium, s, &EMPTY).expect("commit"));
         let flush = begun(&|s| writer::flush(&medium, s, &held).expect("flush"));

@@ -60,9 +60,13 @@ fn laid_on(settings: &Settings, group: &[(u16, u64)]) -> Settings {
     settings
 }
 
+/// What the call answers, the group as keys and words.
+type Answer = Result<Option<Vec<(u16, u64)>>, Refused>;
+
 /// By the words of the document: the valves that differ, those to be removed
-/// and then those to be set; none if there are more than 96.
-fn defined(present: &Settings, wanted: &Settings) -> Option<Vec<(u16, u64)>> {
+/// and then those to be set; 11 if valve 0 is among these, none if there are more
+/// than 96.
+fn defined(present: &Settings, wanted: &Settings) -> Answer {
     let valves: BTreeSet<u16> = present.keys().chain(wanted.keys()).copied().collect();
     let differ = |valve: &u16| present.get(valve) != wanted.get(valve);
     let differing: Vec<u16> = valves.into_iter().filter(differ).collect();
@@ -71,14 +75,21 @@ fn defined(present: &Settings, wanted: &Settings) -> Option<Vec<(u16, u64)>> {
     for valve in &differing {
         group.extend(wanted.get(valve).map(|&word| (*valve, word)));
     }
-    (differing.len() <= 96).then_some(group)
+    if differing.contains(&0) && wanted.contains_key(&0) {
+        return refused(11);
+    }
+    Ok((differing.len() <= 96).then_some(group))
 }
 
 /// What the call answers for a journal with these settings.
-fn answered<C: Calls>(present: &Settings, wanted: &Settings) -> Option<Vec<(u16, u64)>> {
+fn answered<C: Calls>(present: &Settings, wanted: &Settings) -> Answer {
     let (medium, state) = journal(present);
-    let answer = C::wanted(&medium, &C::of(&state), &records(wanted));
-    answer.expect("an accepted call").map(pairs)
+    asked::<C>(&medium, &state, &records(wanted))
+}
+
+/// What the call answers.
+fn asked<C: Calls>(medium: &[u8], state: &State, list: &[Record]) -> Answer {
+    C::wanted(medium, &C::of(state), list).map(|group| group.map(pairs))
 }
 
 /// So many valves from `first` on, each with this word.
@@ -90,14 +101,14 @@ fn small_cases<C: Calls>() {
     let present = Settings::from([(5, 1000), (7, 20), (9, 0)]);
     let answer = |wanted: &[(u16, u64)]| {
         let wanted = wanted.iter().copied().collect();
-        answered::<C>(&present, &wanted).expect("a group")
+        answered::<C>(&present, &wanted).expect("an accepted call").expect("a group")
     };
     assert_eq!(answer(&[(5, 1000), (7, 20), (9, 0)]), []);
     assert_eq!(answer(&[]), [(5 + REMOVAL, 0), (7 + REMOVAL, 0), (9 + REMOVAL, 0)]);
     assert_eq!(answer(&[(5, 1000), (7, 21), (9, 0)]), [(7, 21)]);
     assert_eq!(answer(&[(4, 1), (7, 20)]), [(5 + REMOVAL, 0), (9 + REMOVAL, 0), (4, 1)]);
     assert_eq!(answer(&[(5, 1000), (7, 20), (9, 0), (32767, u64::MAX)]), [(32767, u64::MAX)]);
-    assert_eq!(answered::<C>(&Settings::new(), &Settings::new()), Some(vec![]));
+    assert_eq!(answered::<C>(&Settings::new(), &Settings::new()), Ok(Some(vec![])));
 }
 
 /// Three valves, each unset or with one of two words: every present and every
@@ -113,14 +124,13 @@ fn fewest_of_all_lists<C: Calls>() {
         .collect();
     for present in &all {
         let (medium, state) = journal(present);
-        let state = C::of(&state);
         let steps = fewest_from(present, &valves);
         for wanted in &all {
-            let answer = C::wanted(&medium, &state, &records(wanted));
-            let group = pairs(answer.expect("an accepted call").expect("a group"));
+            let answer = asked::<C>(&medium, &state, &records(wanted));
+            assert_eq!(answer, defined(present, wanted));
+            let group = answer.expect("an accepted call").expect("a group");
             assert_eq!(laid_on(present, &group), *wanted);
             assert_eq!(group.len(), steps[wanted], "{present:?} to {wanted:?}");
-            assert_eq!(Some(group), defined(present, wanted));
         }
     }
 }
@@ -151,17 +161,13 @@ fn fewest_from(present: &Settings, valves: &[u16]) -> BTreeMap<Settings, usize> 
 
 fn removals_first_and_both_ascending<C: Calls>() {
     let present = settings(100, 60, 1);
-    let wanted = [settings(0, 20, 9), settings(130, 20, 1), settings(150, 30, 2)].concat_all();
-    let group = answered::<C>(&present, &wanted).expect("a group");
+    let wanted = [settings(1, 20, 9), settings(130, 20, 1), settings(150, 30, 2)].concat_all();
+    let answer = answered::<C>(&present, &wanted);
     let mut expected: Vec<(u16, u64)> = (100..130).map(|valve| (valve + REMOVAL, 0)).collect();
-    expected.extend(valves_with(0, 20, 9));
-    expected.extend(valves_with(150, 30, 2));
-    assert_eq!(group, expected);
-    assert_eq!(Some(group), defined(&present, &wanted));
-}
-
-fn valves_with(first: u16, count: u16, word: u64) -> impl Iterator<Item = (u16, u64)> {
-    (first..first + count).map(move |valve| (valve, word))
+    expected.extend(settings(1, 20, 9));
+    expected.extend(settings(150, 30, 2));
+    assert_eq!(answer, Ok(Some(expected)));
+    assert_eq!(answer, defined(&present, &wanted));
 }
 
 /// All of several settings together.
@@ -190,14 +196,15 @@ fn at_most_96_entries<C: Calls>() {
             let answer = answered::<C>(present, wanted);
             assert_eq!(answer, defined(present, wanted));
             let entries = if nth == 3 { differing + differing / 2 } else { differing };
-            assert_eq!(answer.map(|group| group.len()), (entries <= 96).then_some(entries.into()));
+            let length = answer.expect("an accepted call").map(|group| group.len());
+            assert_eq!(length, (entries <= 96).then_some(entries.into()));
         }
     }
     // 192 valves replaced by 192 others, and 48 by 48.
-    assert_eq!(answered::<C>(&full, &settings(500, 192, 1)), None);
+    assert_eq!(answered::<C>(&full, &settings(500, 192, 1)), Ok(None));
     let replaced = answered::<C>(&settings(1, 48, 1), &settings(500, 48, 1));
-    assert_eq!(replaced.map(|group| group.len()), Some(96));
-    assert_eq!(answered::<C>(&settings(1, 48, 1), &settings(500, 49, 1)), None);
+    assert_eq!(replaced.map(|group| group.map(|group| group.len())), Ok(Some(96)));
+    assert_eq!(answered::<C>(&settings(1, 48, 1), &settings(500, 49, 1)), Ok(None));
 }
 
 fn record(valve: u16) -> Record {
@@ -216,7 +223,8 @@ fn records_of_any_count_and_content<C: Calls>() {
     for (range, expected) in [
         (0..0, 0),
         (5..6, 0),
-        (0..192, 0),
+        (1..193, 0),
+        (0..192, 11),
         (32576..32768, 0),
         (0..193, 20),
         (32575..32768, 20),
@@ -358,38 +366,39 @@ fn led<C: Calls>(mut medium: Vec<u8>, state: &State, list: &[Record]) -> Option<
     }
     assert_eq!(C::wanted(&medium, &state, list), Ok(Some(vec![])));
     let settings = reader::replay(&medium).expect("recovery").settings();
-    Some(settings.into_iter().map(|entry| (entry.key, entry.word)).collect())
+    Some(pairs(settings).into_iter().collect())
 }
 
 /// Journals that were lived, and records by chance: the answer is the one
 /// defined, and it leads there.
 fn any_journal_and_any_records<C: Calls>() {
     let mut random = Random::new(71);
-    let (mut groups, mut none) = (0, 0);
+    let (mut groups, mut none, mut zero) = (0, 0, 0);
     for _ in 0..150 {
         let medium = random::medium(&mut random);
         let replay = reader::replay(&medium).expect("recovery");
-        let present: Settings =
-            replay.settings().into_iter().map(|entry| (entry.key, entry.word)).collect();
+        let present: Settings = pairs(replay.settings()).into_iter().collect();
         for _ in 0..4 {
             let list = random::some_records(&mut random, &medium, &replay.state);
             let wanted: Settings = list.iter().map(|record| (record.valve, record.word)).collect();
             if records(&wanted) != list || list.len() > 192 || wanted.keys().any(|&v| v > 32767) {
                 continue;
             }
-            let answer = C::wanted(&medium, &C::of(&replay.state), &list);
-            let group = answer.expect("an accepted call").map(pairs);
-            assert_eq!(group, defined(&present, &wanted));
-            let Some(group) = group else {
-                none += 1;
-                continue;
-            };
-            groups += 1;
-            assert_eq!(laid_on(&present, &group), wanted);
-            if reader::available(&medium, &replay.state) >= 20 {
-                assert_eq!(led::<C>(medium.clone(), &replay.state, &list), Some(wanted));
+            let answer = asked::<C>(&medium, &replay.state, &list);
+            assert_eq!(answer, defined(&present, &wanted));
+            match answer {
+                Err(_) => zero += 1,
+                Ok(None) => none += 1,
+                Ok(Some(group)) => {
+                    groups += 1;
+                    assert_eq!(laid_on(&present, &group), wanted);
+                    if reader::available(&medium, &replay.state) >= 20 {
+                        assert_eq!(led::<C>(medium.clone(), &replay.state, &list), Some(wanted));
+                    }
+                }
             }
         }
     }
-    assert!(groups > 100 && none > 20, "{groups} groups, {none} times none");
+    let often = groups > 100 && none > 20 && zero > 10;
+    assert!(often, "{groups} groups, {none} times none, {zero} times 11");
 }

@@ -128,9 +128,10 @@ fn small_examples_of_refusals() {
     let mut journal = formatted.clone();
     assert_eq!(proved::format(&journal.medium[..12288]).map(|_| ()), refused(1));
     assert_eq!(journal.collect(0), refused(15));
-    assert_eq!(journal.begin_append(&valves(0, 97)), refused(10));
+    assert_eq!(journal.begin_append(&valves(1, 97)), refused(10));
     assert_eq!(journal.begin_append(&[]), refused(10));
     assert_eq!(journal.begin_append(&[(32773, 1)]), refused(11));
+    assert_eq!(journal.begin_append(&[(0, 20)]), refused(11));
     assert_eq!(journal.step(), refused(9));
     journal.state = proved::recover(&journal.medium).expect("recovery");
     assert_eq!(journal.step(), refused(9));
@@ -142,9 +143,9 @@ fn small_examples_of_refusals() {
     assert_eq!(journal.step(), refused(16));
 
     let mut journal = formatted.clone();
-    journal.append(&valves(0, 96));
-    journal.append(&valves(96, 96));
-    assert_eq!(journal.begin_append(&[(192, 1)]), refused(12));
+    journal.append(&valves(1, 96));
+    journal.append(&valves(97, 96));
+    assert_eq!(journal.begin_append(&[(193, 1)]), refused(12));
 
     let mut journal = formatted.clone();
     journal.state.head.serial = u64::MAX;
@@ -163,12 +164,12 @@ fn small_examples_of_refusals() {
 #[test]
 fn pages_of_appends_and_commits() {
     for (entries, pages) in [(24, 1), (25, 2), (96, 4)] {
-        let touched = Journal::formatted(4).append(&valves(0, entries));
+        let touched = Journal::formatted(4).append(&valves(1, entries));
         assert_eq!(touched, (1..=pages).map(Touched::Page).collect::<Vec<_>>());
     }
     for (count, pages) in [(0, 1), (24, 1), (25, 2), (192, 8)] {
         let mut journal = Journal::formatted(8);
-        for part in valves(0, count).chunks(96) {
+        for part in valves(1, count).chunks(96) {
             journal.append(part);
         }
         journal.begin_commit().expect("commit");
@@ -180,7 +181,7 @@ fn pages_of_appends_and_commits() {
 #[test]
 fn thirty_entries_cut_after_their_first_page() {
     let mut journal = Journal::formatted(4);
-    journal.begin_append(&valves(0, 30)).expect("append");
+    journal.begin_append(&valves(1, 30)).expect("append");
     assert_eq!(journal.step(), Ok(Step { touched: Touched::Page(1), finished: false }));
     assert_eq!(journal.log(), []);
     journal.state = proved::recover(&journal.medium).expect("recovery");
@@ -202,8 +203,8 @@ fn single_moves_are_gathered_and_flushed() {
     assert_eq!(journal.begin_append(&[]), refused(24));
     assert_eq!(journal.begin_commit(), refused(24));
     assert_eq!(journal.collect(99), refused(24));
-    assert_eq!(journal.gather(&valves(0, 14)), refused(23));
-    assert_eq!(journal.gather(&valves(0, 97)), refused(10));
+    assert_eq!(journal.gather(&valves(1, 14)), refused(23));
+    assert_eq!(journal.gather(&valves(1, 97)), refused(10));
     assert_eq!(journal.log(), []);
     journal.begin_flush().expect("flush");
     assert_eq!(journal.gather(&[(6, 1)]), refused(8));
@@ -290,6 +291,17 @@ impl Twins {
         self.life.grow_old(serials_left);
         self.medium.clone_from(&self.life.medium);
         self.state = self.life.state.as_ref().map(VjState::from);
+    }
+
+    /// Both get a journal that holds valve 0, by the rules of before, if it can
+    /// be written now.
+    fn set_valve_0(&mut self, word: u64) -> bool {
+        let set = self.life.set_valve_0(word);
+        if set {
+            self.medium.clone_from(&self.life.medium);
+            self.state = self.life.state.as_ref().map(VjState::from);
+        }
+        set
     }
 
     /// Both carry out the action: they answer the same and leave the same.
@@ -484,6 +496,9 @@ fn live(seed: u64, blocks: usize, events: u64, counts: &mut Counts) {
         if twins.life.just_formatted() && random.one_in(4) {
             twins.grow_old(random.one_of(&[3, 20, 100, 250]));
         }
+        if random.one_in(60) && twins.set_valve_0(random.word()) {
+            count(counts, "valve 0 is set by the rules of before");
+        }
         let action = twins.life.next_action(&mut random);
         let given = Given::to(&twins.life);
         let outcome = twins.act(&action);
@@ -541,11 +556,12 @@ const HAPPENINGS: [(usize, &[&str]); 2] = [
         "buffer refused 12", "buffer refused 13", "buffer refused 23", "flush", "flush finished",
         "flush refused 8", "append refused 24", "commit refused 24", "collect refused 24",
         "cut inside flush", "cut inside flush, complete",
+        "valve 0 is set by the rules of before",
     ]),
     (5, &[
         "append refused 10", "append refused 11", "commit refused 13", "commit refused 14",
         "collect refused 13", "collect refused 14", "read refused 17", "read refused 18",
-        "read refused 19", "read refused 20",
+        "read refused 11", "read refused 19", "read refused 20",
         "cut inside formatting", "format while something is pending", "buffer refused 10",
         "buffer refused 11", "buffer refused 14", "flush refused 10",
     ]),
@@ -829,7 +845,9 @@ fn some_lists(random: &mut Random) -> (Vec<u16>, Vec<u64>) {
     let lengths = [0, 1, 2, 23, 24, 25, 48, 72, 73, 95, 96, 97, 98, 192, 193, 4096];
     let length = if random.one_in(2) { random.from_to(1, 96) } else { random.one_of(&lengths) };
     let valves = random.one_of(&[30, 200, 32768]);
-    let mut keys: Vec<u16> = (0..length).map(|_| random.below(valves) as u16).collect();
+    let least = usize::from(!random.one_in(8));
+    let mut keys: Vec<u16> =
+        (0..length).map(|_| random.from_to(least, valves - 1) as u16).collect();
     let mut words: Vec<u64> = (0..length).map(|_| random.word()).collect();
     for (key, word) in keys.iter_mut().zip(&mut words) {
         if random.one_in(5) {
@@ -1050,11 +1068,11 @@ const NUMBERS: [(&str, &[u8]); 11] = [
     ("commit", &[0, 1, 7, 8, 24, 13, 14]),
     ("collect", &[0, 1, 7, 8, 24, 15, 6, 13, 14]),
     ("buffer", &[0, 1, 7, 8, 10, 11, 12, 23, 13, 14]),
-    ("flush", &[0, 1, 7, 8, 10, 12, 13, 14]),
+    ("flush", &[0, 1, 7, 8, 10, 11, 12, 13, 14]),
     ("step", &[0, 1, 7, 9, 6, 14, 16]),
     ("word", &[0, 1, 7, 18, 6]),
     ("available", &[0, 1, 7]),
-    ("wanted", &[0, 1, 7, 19, 20, 6]),
+    ("wanted", &[0, 1, 7, 19, 20, 6, 11]),
     ("wanted, none", &[0]),
 ];
 

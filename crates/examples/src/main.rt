@@ -108,7 +108,7 @@ fn pages() {
 // The pages of an append of n entries.
 fn append_pages(n: u64) {
     let mut m = [255u8; 16384];
-    let t = trials::play(&mut m, &[FORMATTED, SET, n, 0]);
+    let t = trials::play(&mut m, &[FORMATTED, SET, n, 1]);
     show::number(n);
     if t.number != 0 {
         show::answer(b" entries: ", t.number);
@@ -117,10 +117,10 @@ fn append_pages(n: u64) {
     line(b" entries: pages ", t.steps as u64);
 }
 
-// The pages of a commit of `low` valves from 0 on and `high` from 96 on. An append of none is refused, and hands the state back.
+// The pages of a commit of `low` valves from 1 on and `high` from 97 on. An append of none is refused, and hands the state back.
 fn commit_pages(low: u64, high: u64) {
     let mut m = [255u8; 16384];
-    let t = trials::play(&mut m, &[FORMATTED, SET, low, 0, SET, high, 96, COMMITTED]);
+    let t = trials::play(&mut m, &[FORMATTED, SET, low, 1, SET, high, 97, COMMITTED]);
     show::number(t.state.index.count as u64);
     line(b" valves: pages of a commit ", t.steps as u64);
 }
@@ -168,7 +168,7 @@ fn lengths() {
 // 30 entries, cut after their first page.
 fn cut() {
     let mut m = [255u8; 16384];
-    let t = trials::play(&mut m, &[FORMATTED, VALVES, 30, 0, STEP]);
+    let t = trials::play(&mut m, &[FORMATTED, VALVES, 30, 1, STEP]);
     line(b"30 entries cut after page ", t.touched as u64);
     show::medium(&m);
 }
@@ -179,7 +179,7 @@ fn next_append() {
         FORMATTED,
         VALVES,
         30,
-        0,
+        1,
         STEP,
         RECOVER,
         APPEND,
@@ -327,10 +327,10 @@ fn small_groups() {
             FORMATTED,
             BUFFER_VALVES,
             10,
-            0,
+            1,
             BUFFER_VALVES,
             6,
-            10,
+            11,
             FLUSHED,
         ],
         1,

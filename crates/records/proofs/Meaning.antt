@@ -16,7 +16,7 @@ use Rattle.index.specs.Index.{risingFrom, rising}
 use Rattle.index.proofs.Pairs.{pairs-snoc}
 use Rattle.records.specs.declared.Record.{Record}
 use Rattle.records.specs.declared.Notes.{Notes}
-use Rattle.records.specs.Records.{risesOn, notedPast, notedAt, noted, notedAll, unnoted, settingsOf}
+use Rattle.records.specs.Records.{risesOn, notedPast, notedAt, noted, notedAll, unnoted, wantedSettings}
 
 -- ---- one record more
 
@@ -60,16 +60,16 @@ beside true true false false d = refl
 abbrev pub inRange : Cell → Bool
 inRange x = ltb (x .key) 32768
 
-rises-all : (n : Notes) (rs : List Record) → notedAll n rs .rises ≡ n .rises && (risingFrom (n .least) (settingsOf rs) && all inRange (settingsOf rs))
-unfolding notedAll risingFrom all settingsOf risesOn
+rises-all : (n : Notes) (rs : List Record) → notedAll n rs .rises ≡ n .rises && (risingFrom (n .least) (wantedSettings rs) && all inRange (wantedSettings rs))
+unfolding notedAll risingFrom all wantedSettings risesOn
 rises-all n [] = and-true (n .rises)
 rises-all n (r ∷ rs) =
     rises-all (noted n r) rs
-    ∙ ap (λ (t : Bool). t && (risingFrom (noted n r .least) (settingsOf rs) && all inRange (settingsOf rs))) (noted-rises n r)
-    ∙ ap (λ (k : ℕ). risesOn (n .rises) (n .least) (r .valve) && (risingFrom k (settingsOf rs) && all inRange (settingsOf rs))) (noted-least n r)
-    ∙ beside (n .rises) (leb (n .least) (r .valve)) (ltb (r .valve) 32768) (risingFrom (suc (r .valve)) (settingsOf rs)) (all inRange (settingsOf rs))
+    ∙ ap (λ (t : Bool). t && (risingFrom (noted n r .least) (wantedSettings rs) && all inRange (wantedSettings rs))) (noted-rises n r)
+    ∙ ap (λ (k : ℕ). risesOn (n .rises) (n .least) (r .valve) && (risingFrom k (wantedSettings rs) && all inRange (wantedSettings rs))) (noted-least n r)
+    ∙ beside (n .rises) (leb (n .least) (r .valve)) (ltb (r .valve) 32768) (risingFrom (suc (r .valve)) (wantedSettings rs)) (all inRange (wantedSettings rs))
 
-pub notes-rise : (rs : List Record) → notedAll unnoted rs .rises ≡ (rising (settingsOf rs) && all inRange (settingsOf rs))
+pub notes-rise : (rs : List Record) → notedAll unnoted rs .rises ≡ (rising (wantedSettings rs) && all inRange (wantedSettings rs))
 unfolding unnoted rising
 notes-rise rs = rises-all unnoted rs
 
@@ -111,8 +111,8 @@ abbrev cells : Notes → List Cell
 cells n = pairs (n .count) (n .keys) (n .vals)
 
 cells-all : (n : Notes) (rs : List Record) → length (n .keys) ≡ 192 → length (n .vals) ≡ 192 → n .count + length rs ≤ 192
-    → cells (notedAll n rs) ≡ cells n ++ settingsOf rs
-unfolding notedAll settingsOf notedAt
+    → cells (notedAll n rs) ≡ cells n ++ wantedSettings rs
+unfolding notedAll wantedSettings notedAt
 cells-all n [] l m h = sym (append-nil (cells n))
 cells-all n (r ∷ rs) l m h =
     let small : n .count < 192 = omega (arith, h) in
@@ -122,17 +122,17 @@ cells-all n (r ∷ rs) l m h =
     let ec : noted n r .count ≡ n .count + 1 = ap (λ (q : Notes). q .count) e in
     let more = pairs-snoc (n .count) (n .keys) (n .vals) (r .valve) (r .word) (omega (arith, l, small)) (omega (arith, m, small)) in
     cells-all (noted n r) rs ek ev (omega (arith, ec, h))
-    ∙ ap (λ (q : Notes). cells q ++ settingsOf rs) e
-    ∙ ap (λ (t : List Cell). t ++ settingsOf rs) more
-    ∙ append-snoc (cells n) (cell (r .valve) (r .word)) (settingsOf rs)
+    ∙ ap (λ (q : Notes). cells q ++ wantedSettings rs) e
+    ∙ ap (λ (t : List Cell). t ++ wantedSettings rs) more
+    ∙ append-snoc (cells n) (cell (r .valve) (r .word)) (wantedSettings rs)
 
 pub notes-cells : (rs : List Record) → length rs ≤ 192
-    → pairs (notedAll unnoted rs .count) (notedAll unnoted rs .keys) (notedAll unnoted rs .vals) ≡ settingsOf rs
+    → pairs (notedAll unnoted rs .count) (notedAll unnoted rs .keys) (notedAll unnoted rs .vals) ≡ wantedSettings rs
 unfolding unnoted
 notes-cells rs h =
-    cells-all unnoted rs refl refl (omega (arith, h)) ∙ ap (λ (t : List Cell). t ++ settingsOf rs) (pairs-none 0 (replicate 192 0) (replicate 192 0) refl)
+    cells-all unnoted rs refl refl (omega (arith, h)) ∙ ap (λ (t : List Cell). t ++ wantedSettings rs) (pairs-none 0 (replicate 192 0) (replicate 192 0) refl)
 
-pub length-settings : (rs : List Record) → length (settingsOf rs) ≡ length rs
-unfolding settingsOf
+pub length-settings : (rs : List Record) → length (wantedSettings rs) ≡ length rs
+unfolding wantedSettings
 length-settings [] = refl
 length-settings (r ∷ rs) = ap suc (length-settings rs)

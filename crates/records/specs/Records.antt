@@ -9,9 +9,9 @@ use Rattle.records.specs.declared.Record.{Record}
 use Rattle.records.specs.declared.Notes.{Notes}
 
 -- "records, each a valve and its word"
-unfoldable pub settingsOf : List Record → List Setting
-settingsOf [] = []
-settingsOf (r ∷ rs) = cell (r .valve) (r .word) ∷ settingsOf rs
+unfoldable pub wantedSettings : List Record → List Setting
+wantedSettings [] = []
+wantedSettings (r ∷ rs) = cell (r .valve) (r .word) ∷ wantedSettings rs
 
 -- ---- the notes
 

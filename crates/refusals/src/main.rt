@@ -63,15 +63,20 @@ fn operations() {
         &[FORMATTED, APPEND, 1, 5, 1000, COMMIT],
     );
     say(b"9 step after recovery: ", &[FORMATTED, RECOVER, STEP]);
-    say(b"10 97 entries: ", &[FORMATTED, VALVES, 97, 0]);
+    say(b"10 97 entries: ", &[FORMATTED, VALVES, 97, 1]);
 }
 
 // 11 and 12.
 fn groups() {
     say(b"11 key 32773, word 1: ", &[FORMATTED, APPEND, 1, 32773, 1]);
+    say(b"11 valve 0 set: ", &[FORMATTED, APPEND, 1, 0, 1000]);
+    say(
+        b"11 valve 0 set in the buffer: ",
+        &[FORMATTED, BUFFER, 1, 0, 1000],
+    );
     say(
         b"12 a 193rd: ",
-        &[FORMATTED, SET, 96, 0, SET, 96, 96, VALVES, 1, 192],
+        &[FORMATTED, SET, 96, 1, SET, 96, 97, VALVES, 1, 193],
     );
 }
 
@@ -111,10 +116,10 @@ fn unset_valve() {
 
 // 23: a group that the write buffer has no places for. 24: a commit while it holds one.
 fn buffers() {
-    say(b"23 17 entries: ", &[FORMATTED, BUFFER_VALVES, 17, 0]);
+    say(b"23 17 entries: ", &[FORMATTED, BUFFER_VALVES, 17, 1]);
     say(
         b"23 3 entries, 14 buffered: ",
-        &[FORMATTED, BUFFER_VALVES, 14, 0, BUFFER_VALVES, 3, 14],
+        &[FORMATTED, BUFFER_VALVES, 14, 1, BUFFER_VALVES, 3, 15],
     );
     say(
         b"24 commit, a group buffered: ",

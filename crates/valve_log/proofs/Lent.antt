@@ -15,9 +15,10 @@ use Rattle.page.specs.Pages.{View, changesOf}
 use Rattle.page.specs.Rules.{entryOk}
 use Rattle.page.specs.Buffer.{gathered, holding}
 use Rattle.page.proofs.Buffer.{filled, Fitting, gathered-holding}
-use Rattle.index.specs.Index.{within, removalOk, removalsOk}
+use Rattle.index.specs.Index.{within, entryAllowed, entriesAllowed}
 use Rattle.state.specs.State.{Pending, idle, append, commit, collect, format, flush, unnamed, Held, fit, flushOk, groupsFit, bufferFit, fitWith, bufferedIn, isIdle}
 use Rattle.valve_log.specs.History.{UnderWay, appending, committing, flushing, History, history, counted}
+use Rattle.valve_log.proofs.Groups.{allowed-lawful}
 use Rattle.valve_log.proofs.Index.{keys-append}
 use Rattle.valve_log.proofs.Small.{Small}
 
@@ -34,7 +35,7 @@ Beside unnamed u gs = Unit {0}
 pub record Lent (s : Held) (b : List ℕ) (h : History) : Type 0 where
   pub holds : b ≡ holding (h .buffered)
   pub fits-in : Fitting (h .buffered)
-  pub allowed : removalsOk (changesOf (h .buffered)) ≡ true
+  pub allowed : entriesAllowed (changesOf (h .buffered)) ≡ true
   pub count : within (s .index) (changesOf (h .buffered)) ≡ true
   pub beside : Beside (s .pending) (h .underWay) (h .buffered)
 
@@ -100,7 +101,7 @@ lent-none s b h e g n =
     record {
       holds = e ∙ (unfold holding in sym (ap holding g));
       fits-in = rw g fitting-none;
-      allowed = rw g (unfold changesOf removalsOk all in refl);
+      allowed = rw g (unfold changesOf entriesAllowed all in refl);
       count = rw g (unfold changesOf within in refl);
       beside = beside-none (s .pending) (h .underWay) (h .buffered) n g;
     }
@@ -145,19 +146,19 @@ unfolding wordsOf
 words-append [] b = refl
 words-append (e ∷ a) b = rw (words-append a b)
 
-fitting-more : (gs : List (List Entry)) (es : List Entry) → Fitting gs → Small es → 1 ≤ length es → length (changesOf gs) + length es ≤ 16 → removalsOk es ≡ true → Fitting (gs ++ (es ∷ []))
+fitting-more : (gs : List (List Entry)) (es : List Entry) → Fitting gs → Small es → 1 ≤ length es → length (changesOf gs) + length es ≤ 16 → entriesAllowed es ≡ true → Fitting (gs ++ (es ∷ []))
 fitting-more gs es F S one few r =
     record {
       each = all-snoc filled gs es ∙ and-both (F .each) (le-leb 1 (length es) one);
       few = rw (changes-snoc gs es) (omega (arith, length-append (changesOf gs) es));
-      entries = rw (changes-snoc gs es) (all-join (entryOk 4) (changesOf gs) es (F .entries) (all-weaken removalOk (entryOk 4) (λ e h. unfold entryOk in (unfold removalOk in h)) es (unfold removalsOk in r)));
+      entries = rw (changes-snoc gs es) (all-join (entryOk 4) (changesOf gs) es (F .entries) (all-weaken entryAllowed (entryOk 4) (allowed-lawful 4 refl) es (unfold entriesAllowed in r)));
       keys = rw (changes-snoc gs es, keys-append (changesOf gs) es) (below-append (keysOf (changesOf gs)) (keysOf es) (F .keys) (S .keys));
       words = rw (changes-snoc gs es, words-append (changesOf gs) es) (below-append (wordsOf (changesOf gs)) (wordsOf es) (F .words) (S .words));
     }
 
-allowed-more : (a b : List Entry) → removalsOk a ≡ true → removalsOk b ≡ true → removalsOk (a ++ b) ≡ true
-unfolding removalsOk
-allowed-more a b x y = all-join removalOk a b x y
+allowed-more : (a b : List Entry) → entriesAllowed a ≡ true → entriesAllowed b ≡ true → entriesAllowed (a ++ b) ≡ true
+unfolding entriesAllowed
+allowed-more a b x y = all-join entryAllowed a b x y
 
 beside-idle : (p : Pending) (u : UnderWay) (gs : List (List Entry)) → isIdle p ≡ true → Beside p u gs
 unfolding isIdle Beside
@@ -170,7 +171,7 @@ beside-idle flush u gs n = true-false n refl
 beside-idle unnamed u gs n = true-false n refl
 
 pub lent-more : {s : Held} {b : List ℕ} {h : History} → Lent s b h → (es : List Entry) → isIdle (s .pending) ≡ true → Small es → 1 ≤ length es → length (changesOf (bufferedIn b)) + length es ≤ 16
-    → removalsOk es ≡ true → within (s .index) (changesOf (bufferedIn b) ++ es) ≡ true
+    → entriesAllowed es ≡ true → within (s .index) (changesOf (bufferedIn b) ++ es) ≡ true
     → Lent s (holding (bufferedIn b ++ (es ∷ []))) (history (h .settings) (h .log) (h .underWay) (h .buffered ++ (es ∷ [])))
 lent-more {s} {b} {h} L es i S one few r w =
     record {
@@ -186,11 +187,11 @@ lent-more {s} {b} {h} L es i S one few r w =
 
 -- ---- the buffer is fit
 
-flush-fit : (index : List Place) (gs : List (List Entry)) → removalsOk (changesOf gs) ≡ true → 1 ≤ length gs → within index (changesOf gs) ≡ true → flushOk index gs ≡ true
+flush-fit : (index : List Place) (gs : List (List Entry)) → entriesAllowed (changesOf gs) ≡ true → 1 ≤ length gs → within index (changesOf gs) ≡ true → flushOk index gs ≡ true
 unfolding flushOk every
 flush-fit index gs F n w = rw (le-leb 1 (length gs) n, F, w)
 
-groups-fit : (index : List Place) (p : Pending) (u : UnderWay) (gs : List (List Entry)) → removalsOk (changesOf gs) ≡ true → within index (changesOf gs) ≡ true → Beside p u gs → groupsFit index p gs ≡ true
+groups-fit : (index : List Place) (p : Pending) (u : UnderWay) (gs : List (List Entry)) → entriesAllowed (changesOf gs) ≡ true → within index (changesOf gs) ≡ true → Beside p u gs → groupsFit index p gs ≡ true
 unfolding groupsFit Beside
 groups-fit index idle u gs F w B = refl
 groups-fit index (append es ps) u gs F w B = refl

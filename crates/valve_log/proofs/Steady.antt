@@ -17,7 +17,7 @@ use Rattle.page.specs.Pages.{View, clean, spoilt, whole, isClean, pagesFor, cha
 use Rattle.flash.specs.Medium.{views, seen, erased}
 use Rattle.flash.proofs.Laws.{length-views}
 use Rattle.flash.proofs.Steps.{program-views}
-use Rattle.index.specs.Index.{within, removalsOk, lookup}
+use Rattle.index.specs.Index.{within, entriesAllowed, lookup}
 use Rattle.blocks.specs.Blocks.{sizeOk, available}
 use Rattle.nodes.specs.Nodes.{wordAt, sound, live, pickBelow}
 use Rattle.state.specs.State.{Pending, append, commit, collect, flush, Held, groupOk, basePages, pendingFit, fit, fitWith, bufferedIn, stateNeeds}
@@ -69,7 +69,7 @@ module _ (n : ℕ) (v : List View) (s : Held) (bs : List ℕ) (h : History) (c :
       (fit-append v (s .head) (s .index) (zip ks ws) [] (ok (omega arith) (omega arith) (every-at 5 _ e) (every-at 6 _ e)) serial-one (some-page (omega arith)))
       (left-append v (s .head) (s .index) (zip ks ws) [] (rw z (omega arith)))
     where
-      ok : 1 ≤ length (zip ks ws) → length (zip ks ws) ≤ 96 → removalsOk (zip ks ws) ≡ true → within (s .index) (zip ks ws) ≡ true → groupOk (s .index) (zip ks ws) ≡ true
+      ok : 1 ≤ length (zip ks ws) → length (zip ks ws) ≤ 96 → entriesAllowed (zip ks ws) ≡ true → within (s .index) (zip ks ws) ≡ true → groupOk (s .index) (zip ks ws) ≡ true
       ok a b p q = unfold groupOk every in rw (le-leb 1 (length (zip ks ws)) a, le-leb (length (zip ks ws)) 96 b, p, q)
 
       some-page : 1 ≤ length (zip ks ws) → 0 < pagesFor (length (zip ks ws))

@@ -4,7 +4,6 @@ use mathlib.Core.Bool.{Bool, true, false, cond, not}
 use mathlib.Core.Option.{Option, none, some}
 use mathlib.Core.List.{List, []}
 use Prim.Native.Nat.{ℕ, _≤_, _<_}
-use native.Mathlib.Omega.{arith}
 use lib.ListN.{length}
 use lib.Dec.{leb, ltb}
 use borrow.Author.Tests.{le-leb, lt-leb, leb-true, not-true, not-false}
@@ -16,23 +15,22 @@ use Rattle.lists.specs.Cells.{listed}
 use Rattle.lists.proofs.Laws.{all-weaken, every-at, number-refuses, number-clear, numbered, tests, checked-pass}
 use Rattle.page.specs.Pages.{View}
 use Rattle.flash.specs.Medium.{views}
-use Rattle.index.specs.Index.{rising}
+use Rattle.index.specs.Index.{rising, entriesAllowed}
 use Rattle.index.specs.Search.{Kept}
 use Rattle.nodes.specs.Nodes.{sound, words}
 use Rattle.nodes.proofs.Alive.{rising-words, all-words}
 use Rattle.state.specs.declared.State.{State}
-use Rattle.state.specs.State.{Held, meaning, placeFit, indexFit, fit, stateNeeds}
+use Rattle.state.specs.State.{meaning, placeFit, indexFit, fit, stateNeeds}
 use Rattle.state.proofs.Laws.{passed}
 use Rattle.records.specs.declared.Notes.{Notes}
 use Rattle.settings.specs.declared.Settings.{Settings}
 use Rattle.settings.specs.Present.{presentOf, settingsIn}
 use Rattle.wanted_group.specs.declared.Limited.{Limited}
-use Rattle.wanted_group.specs.Group.{isValve, groupFor, differing}
+use Rattle.wanted_group.specs.Group.{isValve, groupFor}
 use Rattle.wanted_group.specs.Limited.{Cut, limited, cutBy}
 use Rattle.wanted_group.proofs.Fewest.{group-length}
-use Rattle.wanted.specs.declared.Offered.{Offered}
-use Rattle.wanted.specs.Wanted.{Offer, turnedBack, group, valvesOk, offerFor, Told, told, saidBy}
-use Rattle.wanted.specs.Noted.{notedSettings, Orderly, recordNeeds, offerOr6, wantedBy}
+use Rattle.wanted.specs.Wanted.{Wanted, turnedBack, group, valvesOk, wantedFor, Told, told, saidBy}
+use Rattle.wanted.specs.Noted.{notedSettings, Orderly, recordNeeds, afterRecords, wantedBy}
 
 -- ---- a refusal
 
@@ -56,7 +54,7 @@ module _ (n : Notes) where
     unfolding numberOf checked
     record-0 l = rw (not-false (n .rises) h, le-leb (n .count) 192 l)
 
--- ---- 6 and the group, from the present settings
+-- ---- 6, 11 and the group, from the present settings
 
 is-some : (b : Bool) (l : List Cell) → isSome (cond b (some l) none) ≡ b
 unfolding isSome
@@ -74,28 +72,28 @@ some-is b l m e h = ap value (h ∙ ap (λ (t : Bool). cond t (some m) none) e)
 abbrev cutTold : Cut → Told
 cutTold c = record { number = 0; found = c .found; entries = c .entries }
 
-cut-offer : (t : Bool) (es : List Cell)
-    → cutTold (cond t (record { found = true; entries = es }) (record { found = false; entries = [] })) ≡ told (cond t (group es) Offer.none)
+cut-told : (t : Bool) (es : List Cell)
+    → cutTold (cond t (record { found = true; entries = es }) (record { found = false; entries = [] })) ≡ told (cond t (group es) Wanted.none)
 unfolding told
-cut-offer true es = refl
-cut-offer false es = refl
+cut-told true es = refl
+cut-told false es = refl
 
 -- more than 96 entries exactly where more than 96 valves differ
-limited-offer : (s w : List Cell) → rising s ≡ true → rising w ≡ true → all isValve s ≡ true → all isValve w ≡ true
-    → cutTold (limited (groupFor s w)) ≡ told (offerFor s w)
-unfolding limited offerFor
-limited-offer s w r q a b =
-    cut-offer (leb (length (groupFor s w)) 96) (groupFor s w)
-    ∙ ap (λ (k : ℕ). told (cond (leb k 96) (group (groupFor s w)) Offer.none)) (group-length s w r q a b)
+limited-told : (s w : List Cell) → rising s ≡ true → rising w ≡ true → all isValve s ≡ true → all isValve w ≡ true
+    → cutTold (limited (groupFor s w)) ≡ told (wantedFor s w)
+unfolding limited wantedFor
+limited-told s w r q a b =
+    cut-told (leb (length (groupFor s w)) 96) (groupFor s w)
+    ∙ ap (λ (k : ℕ). told (cond (leb k 96) (group (groupFor s w)) Wanted.none)) (group-length s w r q a b)
 
 module _ (v : List View) (l : List Cell) (p : Settings) (k : Kept (p .cells .count) (settingsIn p) (presentOf v l)) where
   told-sound : p .sound ≡ sound v l
   unfolding presentOf
   told-sound = sym (is-some (p .sound) (listed (p .cells))) ∙ ap isSome (k .so) ∙ is-some (sound v l) (words v l)
 
-  pub offer-6 : (w : List Cell) (x : Told) → not (p .sound) ≡ true → x ≡ told (turnedBack 6) → x ≡ told (offerOr6 v l w)
-  unfolding offerOr6 checked
-  offer-6 w x h e = e ∙ rw (← told-sound, not-true (p .sound) h)
+  pub index-6 : (w : List Cell) (x : Told) → not (p .sound) ≡ true → x ≡ told (turnedBack 6) → x ≡ told (afterRecords v l w)
+  unfolding afterRecords checked
+  index-6 w x h e = e ∙ rw (← told-sound, not-true (p .sound) h)
 
   module _ (h : not (p .sound) ≡ false) where
     told-words : listed (p .cells) ≡ words v l
@@ -115,15 +113,23 @@ module _ (v : List View) (l : List Cell) (p : Settings) (k : Kept (p .cells .cou
     unfolding isValve
     told-valves a = ap (all isValve) told-words ∙ all-words (λ k. ltb k 32768) v l ∙ a
 
-    pub offer-group : (w : List Cell) (g : Limited) → rising l ≡ true → all isValve l ≡ true → rising w ≡ true → all isValve w ≡ true
-        → Kept (g .cells .count) (cutBy g) (limited (groupFor (listed (p .cells)) w))
-        → saidBy (record { number = 0; found = g .found; group = g .cells }) ≡ told (offerOr6 v l w)
-    unfolding offerOr6 checked
-    offer-group w g r a q b e =
-        ap cutTold (e .so)
-        ∙ limited-offer (listed (p .cells)) w (told-rises r) q (told-valves a) b
-        ∙ ap (λ (t : List Cell). told (offerFor t w)) told-words
-        ∙ rw (← told-sound, not-false (p .sound) h)
+    module _ (w : List Cell) (b : Bool) (y : b ≡ entriesAllowed (groupFor (listed (p .cells)) w)) where
+      told-allowed : entriesAllowed (groupFor (words v l) w) ≡ b
+      told-allowed = sym (y ∙ ap (λ (t : List Cell). entriesAllowed (groupFor t w)) told-words)
+
+      pub index-11 : (x : Told) → not b ≡ true → x ≡ told (turnedBack 11) → x ≡ told (afterRecords v l w)
+      unfolding afterRecords checked
+      index-11 x z e = e ∙ rw (← told-sound, not-false (p .sound) h, told-allowed, not-true b z)
+
+      pub index-group : (g : Limited) → not b ≡ false → rising l ≡ true → all isValve l ≡ true → rising w ≡ true → all isValve w ≡ true
+          → Kept (g .cells .count) (cutBy g) (limited (groupFor (listed (p .cells)) w))
+          → saidBy (record { number = 0; found = g .found; group = g .cells }) ≡ told (afterRecords v l w)
+      unfolding afterRecords checked
+      index-group g z r a q c e =
+          ap cutTold (e .so)
+          ∙ limited-told (listed (p .cells)) w (told-rises r) q (told-valves a) c
+          ∙ ap (λ (t : List Cell). told (wantedFor t w)) told-words
+          ∙ rw (← told-sound, not-false (p .sound) h, told-allowed, not-false b z)
 
 -- ---- the answer, from the notes
 
@@ -141,7 +147,7 @@ module _ (m : List ℕ) (s : State) (n : Notes) (g : ℕ) (e : g ≡ numberOf (s
     unfolding fit
     state-valves = all-valves (s .head .blocks) (listed (s .index)) (every-at 1 _ (passed m s g e z .fits))
 
-    on : wantedBy (length m) (views m) (meaning s) n ≡ checked turnedBack (recordNeeds n) (offerOr6 (views m) (listed (s .index)) (notedSettings n))
+    on : wantedBy (length m) (views m) (meaning s) n ≡ checked turnedBack (recordNeeds n) (afterRecords (views m) (listed (s .index)) (notedSettings n))
     unfolding wantedBy checked
     on = let p = passed m s g e z in rw (p .size, p .fits)
 
@@ -170,5 +176,5 @@ module _ (m : List ℕ) (s : State) (n : Notes) (g : ℕ) (e : g ≡ numberOf (s
         unfolding valvesOk
         records-valves o = every-at 1 _ (orderly o)
 
-        pub answer-offer : (x : Told) → x ≡ told (offerOr6 (views m) (listed (s .index)) (notedSettings n)) → x ≡ told (wantedBy (length m) (views m) (meaning s) n)
-        answer-offer x q = q ∙ ap told (sym (checked-pass turnedBack (recordNeeds n) _ both) ∙ sym on)
+        pub answer-index : (x : Told) → x ≡ told (afterRecords (views m) (listed (s .index)) (notedSettings n)) → x ≡ told (wantedBy (length m) (views m) (meaning s) n)
+        answer-index x q = q ∙ ap told (sym (checked-pass turnedBack (recordNeeds n) _ both) ∙ sym on)

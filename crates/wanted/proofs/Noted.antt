@@ -17,11 +17,11 @@ use Rattle.nodes.specs.Nodes.{sound}
 use Rattle.state.specs.State.{Held, stateNeeds}
 use Rattle.records.specs.declared.Record.{Record}
 use Rattle.records.specs.declared.Notes.{Notes}
-use Rattle.records.specs.Records.{settingsOf, unnoted, notedAll}
+use Rattle.records.specs.Records.{wantedSettings, unnoted, notedAll}
 use Rattle.records.proofs.Meaning.{inRange, notes-rise, notes-over, notes-count, notes-cells, length-settings}
 use Rattle.wanted_group.specs.Group.{isValve}
-use Rattle.wanted.specs.Wanted.{Offer, turnedBack, present, valvesOk, fewRecords, offerFor, wantedOf}
-use Rattle.wanted.specs.Noted.{notedSettings, Orderly, recordNeeds, offerOr6, wantedBy}
+use Rattle.wanted.specs.Wanted.{Wanted, turnedBack, present, valvesOk, fewRecords, wantedFor, wantedOf}
+use Rattle.wanted.specs.Noted.{notedSettings, Orderly, recordNeeds, afterRecords, wantedBy}
 
 and-last : (a b : Bool) → (a && b) ≡ (a && (b && true))
 and-last true true = refl
@@ -37,12 +37,12 @@ module _ (rs : List Record) where
   notes = notedAll unnoted rs
 
   -- 19
-  same-rises : notes .rises ≡ valvesOk (settingsOf rs)
+  same-rises : notes .rises ≡ valvesOk (wantedSettings rs)
   unfolding valvesOk every isValve
-  same-rises = notes-rise rs ∙ and-last (rising (settingsOf rs)) (all inRange (settingsOf rs))
+  same-rises = notes-rise rs ∙ and-last (rising (wantedSettings rs)) (all inRange (wantedSettings rs))
 
   -- 20
-  same-few : leb (notes .count) 192 ≡ fewRecords (settingsOf rs)
+  same-few : leb (notes .count) 192 ≡ fewRecords (wantedSettings rs)
   unfolding fewRecords
   same-few =
       by-cases (leb (length rs) 192)
@@ -57,17 +57,17 @@ module _ (rs : List Record) where
       by-cases (leb (length rs) 192) (λ b. leb-true (length rs) 192 b)
       (λ b. let over = notes-over rs (leb-false (length rs) 192 b) in absurd (omega (arith, h, over)))
 
-  same-settings : notes .count ≤ 192 → notedSettings notes ≡ settingsOf rs
+  same-settings : notes .count ≤ 192 → notedSettings notes ≡ wantedSettings rs
   same-settings h = notes-cells rs (small h)
 
   pub notes-orderly : Orderly notes
   notes-orderly = record { so = λ r h. ap valvesOk (same-settings h) ∙ sym same-rises ∙ r }
 
-  pub notes-wanted : (n : ℕ) (v : List View) (s : Held) → wantedBy n v s notes ≡ wantedOf n v s (settingsOf rs)
-  unfolding wantedBy wantedOf checked offerOr6
+  pub notes-wanted : (n : ℕ) (v : List View) (s : Held) → wantedBy n v s notes ≡ wantedOf n v s (wantedSettings rs)
+  unfolding wantedBy wantedOf checked afterRecords
   notes-wanted n v s =
       ap (checked turnedBack (stateNeeds n v s))
-      (ap (λ (t : Offer). cond (notes .rises) t (turnedBack 19))
-      (where-true (leb (notes .count) 192) (turnedBack 20) (λ b. ap (offerOr6 v (s .index)) (same-settings (leb-true (notes .count) 192 b))))
-      ∙ ap (λ (t : Bool). cond t (cond (leb (notes .count) 192) (offerOr6 v (s .index) (settingsOf rs)) (turnedBack 20)) (turnedBack 19)) same-rises
-      ∙ ap (λ (t : Bool). cond (valvesOk (settingsOf rs)) (cond t (offerOr6 v (s .index) (settingsOf rs)) (turnedBack 20)) (turnedBack 19)) same-few)
+      (ap (λ (t : Wanted). cond (notes .rises) t (turnedBack 19))
+      (where-true (leb (notes .count) 192) (turnedBack 20) (λ b. ap (afterRecords v (s .index)) (same-settings (leb-true (notes .count) 192 b))))
+      ∙ ap (λ (t : Bool). cond t (cond (leb (notes .count) 192) (afterRecords v (s .index) (wantedSettings rs)) (turnedBack 20)) (turnedBack 19)) same-rises
+      ∙ ap (λ (t : Bool). cond (valvesOk (wantedSettings rs)) (cond t (afterRecords v (s .index) (wantedSettings rs)) (turnedBack 20)) (turnedBack 19)) same-few)

@@ -1,49 +1,50 @@
 -- Every answer serves: the group leads to the wanted settings, nothing shorter does, an append takes it, and 'none' means that nothing of at
 -- most 96 entries leads there.
 use mathlib.Core.Path.{_≡_, refl, sym, ap, _∙_, subst}
-use mathlib.Core.Bool.{Bool, true, false, cond}
+use mathlib.Core.Bool.{Bool, true, false, cond, not}
 use mathlib.Core.List.{List, [], _∷_}
-use Prim.Native.Nat.{ℕ, suc, _≤_, _<_}
+use Prim.Native.Nat.{ℕ, _≤_, _<_}
 use native.Mathlib.Omega.{arith}
 use lib.ListN.{length}
 use lib.Dec.{leb, ltb, eqb}
-use borrow.Author.Tests.{le-leb, eq-eqb, ne-eqb, leb-true, leb-false}
+use borrow.Author.Tests.{le-leb, eq-eqb, ne-eqb, leb-true, leb-false, not-true}
 use Rattle.lists.specs.declared.Cell.{Cell}
 use Rattle.lists.specs.Lists.{all, every}
-use Rattle.lists.specs.Needs.{Need, checked}
+use Rattle.lists.specs.Needs.{Need, need, checked}
 use Rattle.lists.specs.Cells.{Entry, Setting, keysOf, wordsOf}
-use Rattle.lists.proofs.Laws.{by-cases, and-l, and-r, and-both, numbered, all-weaken, every-at, tests, checked-cases, length-keys, length-words}
+use Rattle.lists.proofs.Laws.{by-cases, true-false, and-l, and-r, and-both, all-head, all-tail, numbered, every-at, tests, checked-cases, checked-pass, checked-join, length-keys, length-words}
 use Rattle.page.specs.Pages.{View}
 use Rattle.flash.specs.Medium.{views}
-use Rattle.index.specs.Index.{rising, assignAll, within, removalsOk}
+use Rattle.index.specs.Index.{rising, assignAll, within, entriesAllowed}
 use Rattle.index.proofs.Keys.{within-same}
-use Rattle.nodes.specs.Nodes.{words}
+use Rattle.blocks.specs.Blocks.{sizeOk}
+use Rattle.nodes.specs.Nodes.{sound}
 use Rattle.nodes.proofs.Alive.{keys-words, words-length, rising-words, all-words}
-use Rattle.state.specs.declared.State.{State}
-use Rattle.state.specs.State.{Held, placeFit, indexFit, fit, meaning}
+use Rattle.state.specs.State.{Held, indexFit, fit, meaning}
 use Rattle.calls.specs.Calls.{zip, listsOk}
-use Rattle.records.specs.declared.Record.{Record}
-use Rattle.records.specs.Records.{settingsOf}
+use Rattle.records.specs.Records.{wantedSettings}
 use Rattle.wanted_group.specs.Group.{isValve, groupFor, differing}
 use Rattle.wanted_group.proofs.Leads.{group-leads}
 use Rattle.wanted_group.proofs.Fewest.{group-length, leads-length}
-use Rattle.wanted_group.proofs.Accepted.{group-removals-ok, group-within}
-use Rattle.wanted.specs.declared.Offered.{Offered}
-use Rattle.wanted.specs.Wanted.{Offer, turnedBack, none, group, present, valvesOk, fewRecords, wantedNeeds, offerFor, wantedOf, Told, told, Offers}
-use Rattle.wanted.specs.Serves.{LeadsTo, Fewest, Appendable, Far, Serves, Served, offerOf, ServedByCall}
+use Rattle.wanted_group.proofs.Eleven.{zero-needed}
+use Rattle.wanted_group.proofs.Accepted.{group-within}
+use Rattle.wanted.specs.Wanted.{Wanted, turnedBack, none, group, present, valvesOk, fewRecords, wantedNeeds, wantedFor, wantedOf, Told, told}
+use Rattle.wanted.specs.Serves.{LeadsTo, Fewest, InOrder, Appendable, Far, Serves, Served, ZeroNeeded, answerIn, ServedByCall}
 use Rattle.wanted.proofs.Laws.{all-valves}
+use Rattle.wanted.proofs.Order.{group-ordered}
+use Rattle.wanted.proofs.Append.{appendable}
 
 -- ---- the kinds of answers
 
-abbrev kind : Offer → ℕ
+abbrev kind : Wanted → ℕ
 kind (turnedBack n) = 0
 kind none = 1
 kind (group es) = 2
 
-other : {P : Type 0} {a b : Offer} → (kind a ≡ kind b → ⊥) → a ≡ b → P
+other : {P : Type 0} {a b : Wanted} → (kind a ≡ kind b → ⊥) → a ≡ b → P
 other n e = absurd (n (ap kind e))
 
-abbrev entries : Offer → List Entry
+abbrev entries : Wanted → List Entry
 entries (turnedBack n) = []
 entries none = []
 entries (group es) = es
@@ -53,6 +54,7 @@ serves-refused : (v : List View) (s : Held) (w : List Setting) (n : ℕ) → Ser
 serves-refused v s w n =
     record {
       shortest = λ es e. other (λ z. absurd (omega (arith, z))) e;
+      ordered = λ es e. other (λ z. absurd (omega (arith, z))) e;
       appends = λ es e h. other (λ z. absurd (omega (arith, z))) e;
       none-far = λ e. other (λ z. absurd (omega (arith, z))) e;
       far-none = λ h f. absurd (h n refl);
@@ -139,25 +141,22 @@ module _ (v : List View) (s : Held) (w : List Setting) (f : fit v s ≡ true) (r
   unfolding LeadsTo assignAll
   same-least e = least [] e
 
-  appendable : differing (present v s) w ≤ 96 → 1 ≤ length g → Appendable (s .index) g
-  appendable h low =
+  accepted : entriesAllowed g ≡ true → differing (present v s) w ≤ 96 → 1 ≤ length g → Appendable (s .index) g
+  accepted a h low =
       let z = long in
-      record {
-        ten = lists-ok g low (omega (arith, z, h));
-        eleven = ap removalsOk (zip-both g) ∙ group-removals-ok (present v s) w wanted-valves;
-        twelve =
-            ap (within (s .index)) (zip-both g)
-            ∙ within-same (s .index) (present v s) g g (sym (keys-words v (s .index))) refl
-            ∙ group-within (present v s) w present-rises wanted-rises wanted-valves present-few wanted-few;
-      }
+      appendable (s .index) g (lists-ok g low (omega (arith, z, h))) (ap entriesAllowed (zip-both g) ∙ a)
+      (ap (within (s .index)) (zip-both g)
+      ∙ within-same (s .index) (present v s) g g (sym (keys-words v (s .index))) refl
+      ∙ fewest .most)
 
-  serves-group : differing (present v s) w ≤ 96 → Serves v s w (group g)
+  serves-group : entriesAllowed g ≡ true → differing (present v s) w ≤ 96 → Serves v s w (group g)
   unfolding Far
-  serves-group h =
+  serves-group a h =
       let z = long in
       record {
         shortest = λ es e. subst (Fewest (present v s) w) (ap entries e) fewest;
-        appends = λ es e. subst (λ (t : List Entry). 1 ≤ length t → Appendable (s .index) t) (ap entries e) (appendable h);
+        ordered = λ es e. subst InOrder (ap entries e) (group-ordered (present v s) w present-rises wanted-rises wanted-valves);
+        appends = λ es e. subst (λ (t : List Entry). 1 ≤ length t → Appendable (s .index) t) (ap entries e) (accepted a h);
         none-far = λ e. other (λ y. absurd (omega (arith, y))) e;
         far-none = λ n far. let y = far g leads in absurd (omega (arith, y, z, h));
         nothing-differs = λ n e. let y = same-least e in ap group (no-entries g (omega (arith, y, z)));
@@ -168,42 +167,85 @@ module _ (v : List View) (s : Held) (w : List Setting) (f : fit v s ≡ true) (r
   serves-none h =
       record {
         shortest = λ es e. other (λ y. absurd (omega (arith, y))) e;
+        ordered = λ es e. other (λ y. absurd (omega (arith, y))) e;
         appends = λ es e. other (λ y. absurd (omega (arith, y))) e;
         none-far = λ e fs l. let y = least fs l in omega (arith, y, h);
         far-none = λ n far. refl;
         nothing-differs = λ n e. let y = same-least e in absurd (omega (arith, y, h));
       }
 
-  serves-offer : Serves v s w (offerFor (present v s) w)
-  unfolding offerFor
-  serves-offer =
+  serves-accepted : entriesAllowed g ≡ true → Serves v s w (wantedFor (present v s) w)
+  unfolding wantedFor
+  serves-accepted a =
       by-cases (leb (differing (present v s) w) 96)
-      (λ b. rw b (serves-group (leb-true (differing (present v s) w) 96 b)))
+      (λ b. rw b (serves-group a (leb-true (differing (present v s) w) 96 b)))
       (λ b. rw b (serves-none (leb-false (differing (present v s) w) 96 b)))
 
--- ---- the definition, and the call
+-- ---- the definition
 
 pub serves : Served
 unfolding Served wantedOf tests
 serves n v s w =
-    checked-cases (Serves v s w) turnedBack (wantedNeeds n v s w) (offerFor (present v s) w) (serves-refused v s w)
-    (λ h. serves-offer v s w (every-at 1 _ h) (every-at 2 _ h) (every-at 3 _ h))
+    checked-cases (Serves v s w) turnedBack (wantedNeeds n v s w) (wantedFor (present v s) w) (serves-refused v s w)
+    (λ h. serves-accepted v s w (every-at 1 _ h) (every-at 2 _ h) (every-at 3 _ h) (every-at 5 _ h))
+
+-- ---- 11
+
+abbrev numberIn : Wanted → ℕ
+numberIn (turnedBack n) = n
+numberIn none = 0
+numberIn (group es) = 0
+
+-- a refusal with a number that none of the first conditions has is past them all
+past : (k : ℕ) (cs : List Need) (a : Wanted) → all (λ c. not (eqb (c .number) k)) cs ≡ true → checked turnedBack cs a ≡ turnedBack k → every (tests cs) ≡ true
+unfolding checked tests every
+past k [] a h e = refl
+past k (c ∷ cs) a h e =
+    let on : (b : Bool) → c .holds ≡ b → cond b (checked turnedBack cs a) (turnedBack (c .number)) ≡ turnedBack k
+    = λ b q. sym (ap (λ (t : Bool). cond t (checked turnedBack cs a) (turnedBack (c .number))) q) ∙ e in
+    by-cases (c .holds)
+    (λ b. and-both b (past k cs a (all-tail (λ c. not (eqb (c .number) k)) c cs h) (on true b)))
+    (λ b.
+    true-false (eq-eqb (c .number) k (ap numberIn (on false b))) (not-true (eqb (c .number) k) (all-head (λ c. not (eqb (c .number) k)) c cs h)))
+
+-- 11 refuses an answer that is no refusal only where its condition does not hold
+eleven-fails : (p w : List Setting) (b : Bool) → checked turnedBack (need 11 b ∷ []) (wantedFor p w) ≡ turnedBack 11 → b ≡ false
+unfolding checked wantedFor
+eleven-fails p w false e = refl
+eleven-fails p w true e =
+    by-cases (leb (differing p w) 96)
+    (λ b. other (λ y. absurd (omega (arith, y))) (sym (ap (λ (t : Bool). cond t (group (groupFor p w)) none) b) ∙ e))
+    (λ b. other (λ y. absurd (omega (arith, y))) (sym (ap (λ (t : Bool). cond t (group (groupFor p w)) none) b) ∙ e))
+
+pub zero-is-needed : ZeroNeeded
+unfolding ZeroNeeded wantedOf LeadsTo tests all
+zero-is-needed n v s w fs e h =
+    let before = need 1 (sizeOk n) ∷ need 7 (fit v s) ∷ need 19 (valvesOk w) ∷ need 20 (fewRecords w) ∷ need 6 (sound v (s .index)) ∷ [] in
+    let on = sym (checked-join turnedBack before (need 11 (entriesAllowed (groupFor (present v s) w)) ∷ []) (wantedFor (present v s) w)) ∙ e in
+    let met = past 11 before _ refl on in
+    let f = every-at 1 _ met in
+    let r = every-at 2 _ met in
+    let few = every-at 3 _ met in
+    zero-needed (present v s) w fs (present-rises v s w f r few) (wanted-rises v s w f r few) (wanted-valves v s w f r few) h
+    (eleven-fails (present v s) w (entriesAllowed (groupFor (present v s) w)) (sym (checked-pass turnedBack before _ met) ∙ on))
+
+-- ---- the call
 
 -- what an answer says stands for it again, but for a refusal numbered 0
-heard : Told → Offer
+heard : Told → Wanted
 heard t = cond (eqb (t .number) 0) (cond (t .found) (group (t .entries)) none) (turnedBack (t .number))
 
 heard-refused : (n : ℕ) → 1 ≤ n → heard (told (turnedBack n)) ≡ turnedBack n
 unfolding heard told
 heard-refused n h = rw (ne-eqb n 0 (λ e. absurd (omega (arith, h, e))))
 
-heard-offer : (t : Bool) (es : List Entry) → heard (told (cond t (group es) none)) ≡ cond t (group es) none
+heard-cut : (t : Bool) (es : List Entry) → heard (told (cond t (group es) none)) ≡ cond t (group es) none
 unfolding heard told
-heard-offer true es = refl
-heard-offer false es = refl
+heard-cut true es = refl
+heard-cut false es = refl
 
 -- no condition has number 0
-heard-checked : (cs : List Need) (a : Offer) → numbered cs ≡ true → heard (told a) ≡ a → heard (told (checked turnedBack cs a)) ≡ checked turnedBack cs a
+heard-checked : (cs : List Need) (a : Wanted) → numbered cs ≡ true → heard (told a) ≡ a → heard (told (checked turnedBack cs a)) ≡ checked turnedBack cs a
 unfolding checked numbered
 heard-checked [] a p e = e
 heard-checked (c ∷ cs) a p e =
@@ -212,14 +254,14 @@ heard-checked (c ∷ cs) a p e =
     (λ b. rw b (heard-refused (c .number) (leb-true 1 (c .number) (and-l (leb 1 (c .number)) (numbered cs) p))))
 
 heard-wanted : (n : ℕ) (v : List View) (s : Held) (w : List Setting) → heard (told (wantedOf n v s w)) ≡ wantedOf n v s w
-unfolding wantedOf offerFor numbered
+unfolding wantedOf wantedFor numbered
 heard-wanted n v s w =
-    heard-checked (wantedNeeds n v s w) (offerFor (present v s) w) refl (heard-offer (leb (differing (present v s) w) 96) (groupFor (present v s) w))
+    heard-checked (wantedNeeds n v s w) (wantedFor (present v s) w) refl (heard-cut (leb (differing (present v s) w) 96) (groupFor (present v s) w))
 
 -- whatever the call answers serves
-pub offers-serve : ServedByCall
-unfolding ServedByCall Served offerOf heard
-offers-serve m s records r e =
-    subst (Serves (views m) (meaning s) (settingsOf records))
-    (sym (ap heard e ∙ heard-wanted (length m) (views m) (meaning s) (settingsOf records)))
-    (serves (length m) (views m) (meaning s) (settingsOf records))
+pub answers-serve : ServedByCall
+unfolding ServedByCall Served answerIn heard
+answers-serve m s records r e =
+    subst (Serves (views m) (meaning s) (wantedSettings records))
+    (sym (ap heard e ∙ heard-wanted (length m) (views m) (meaning s) (wantedSettings records)))
+    (serves (length m) (views m) (meaning s) (wantedSettings records))

@@ -7,10 +7,12 @@ use lib.Dec.{leb}
 use Rattle.lists.specs.Needs.{Need, need, checked}
 use Rattle.lists.specs.Cells.{Place, Setting, pairs}
 use Rattle.page.specs.Pages.{View}
+use Rattle.index.specs.Index.{entriesAllowed}
 use Rattle.nodes.specs.Nodes.{sound, words}
 use Rattle.state.specs.State.{Held, stateNeeds}
 use Rattle.records.specs.declared.Notes.{Notes}
-use Rattle.wanted.specs.Wanted.{Offer, turnedBack, valvesOk, offerFor}
+use Rattle.wanted_group.specs.Group.{groupFor}
+use Rattle.wanted.specs.Wanted.{Wanted, turnedBack, valvesOk, wantedFor}
 
 -- the settings that notes hold
 abbrev pub notedSettings : Notes → List Setting
@@ -24,9 +26,9 @@ pub record Orderly (n : Notes) : Type 0 where
 abbrev pub recordNeeds : Notes → List Need
 recordNeeds n = need 19 (n .rises) ∷ need 20 (leb (n .count) 192) ∷ []
 
--- 6, then the group
-unfoldable pub offerOr6 : List View → List Place → List Setting → Offer
-offerOr6 v l w = checked turnedBack (need 6 (sound v l) ∷ []) (offerFor (words v l) w)
+-- what follows 20, for the places of an index and the wanted settings: 6 and 11, then the answer
+unfoldable pub afterRecords : List View → List Place → List Setting → Wanted
+afterRecords v l w = checked turnedBack (need 6 (sound v l) ∷ need 11 (entriesAllowed (groupFor (words v l) w)) ∷ []) (wantedFor (words v l) w)
 
-unfoldable pub wantedBy : ℕ → List View → Held → Notes → Offer
-wantedBy n v s notes = checked turnedBack (stateNeeds n v s) (checked turnedBack (recordNeeds notes) (offerOr6 v (s .index) (notedSettings notes)))
+unfoldable pub wantedBy : ℕ → List View → Held → Notes → Wanted
+wantedBy n v s notes = checked turnedBack (stateNeeds n v s) (checked turnedBack (recordNeeds notes) (afterRecords v (s .index) (notedSettings notes)))

@@ -1,22 +1,24 @@
 -- What the control room relies on: the group leads to the wanted settings, nothing shorter does, an append takes it, and 'none' means that
 -- no group of 96 entries or fewer leads there.
 use mathlib.Core.Path.{_≡_}
-use mathlib.Core.Bool.{true, cond}
-use mathlib.Core.List.{List, []}
+use mathlib.Core.Bool.{Bool, true, false, cond, not}
+use mathlib.Core.List.{List, [], _++_}
 use Prim.Native.Nat.{ℕ, _≤_, _<_}
 use lib.ListN.{length}
-use lib.Dec.{eqb}
+use lib.Dec.{leb, eqb}
+use Rattle.lists.specs.Lists.{all}
 use Rattle.lists.specs.Cells.{Entry, Place, Setting, listed, keysOf, wordsOf}
 use Rattle.page.specs.Pages.{View}
 use Rattle.flash.specs.Medium.{views}
-use Rattle.index.specs.Index.{assignAll, within, removalsOk}
+use Rattle.index.specs.Index.{rising, assignAll, within}
 use Rattle.state.specs.declared.State.{State}
 use Rattle.state.specs.State.{Held, meaning}
-use Rattle.calls.specs.Calls.{zip, listsOk}
+use Rattle.calls.specs.Calls.{Call, appendOf}
 use Rattle.records.specs.declared.Record.{Record}
-use Rattle.records.specs.Records.{settingsOf}
-use Rattle.wanted.specs.declared.Offered.{Offered}
-use Rattle.wanted.specs.Wanted.{Offer, turnedBack, none, group, present, wantedOf, Offers}
+use Rattle.records.specs.Records.{wantedSettings}
+use Rattle.wanted_group.specs.Group.{isValve}
+use Rattle.wanted.specs.declared.WantedAnswer.{WantedAnswer}
+use Rattle.wanted.specs.Wanted.{Wanted, turnedBack, none, group, present, wantedOf, AnswersWanted}
 
 -- entries that, in order, make the wanted settings w of the settings s
 unfoldable pub LeadsTo : List Setting → List Setting → List Entry → Type 0
@@ -29,19 +31,39 @@ pub record Fewest (s w : List Setting) (es : List Entry) : Type 0 where
   -- "At most 192 valves are set, counted after each entry in order."
   pub most : within s es ≡ true
 
--- 10, 11 and 12 do not refuse an append of these entries, as two lists, in a state with this index
+-- "key = valve + 32768 removes it"
+unfoldable pub removes : Entry → Bool
+removes e = leb 32768 (e .key)
+
+-- "Removals come first, ascending, then settings, ascending."
+pub record InOrder (es : List Entry) : Type 0 where
+  pub removals : List Entry
+  pub settings : List Entry
+  pub parts : es ≡ removals ++ settings
+  pub all-remove : all removes removals ≡ true
+  pub all-set : all isValve settings ≡ true
+  pub removals-ascend : rising removals ≡ true
+  pub settings-ascend : rising settings ≡ true
+
+-- an append of these entries, as two lists, in a state with this index, is not refused with this number, whatever the medium, the buffer and
+-- all else of the state
+unfoldable pub NeverRefused : List Place → List Entry → ℕ → Type 0
+NeverRefused index es k =
+    (n : ℕ) (v : List View) (s : Held) (b : List ℕ) → s .index ≡ index → appendOf n v s b (keysOf es) (wordsOf es) ≡ Call.refused k → ⊥
+
 pub record Appendable (index : List Place) (es : List Entry) : Type 0 where
-  pub ten : listsOk (keysOf es) (wordsOf es) ≡ true
-  pub eleven : removalsOk (zip (keysOf es) (wordsOf es)) ≡ true
-  pub twelve : within index (zip (keysOf es) (wordsOf es)) ≡ true
+  pub ten : NeverRefused index es 10
+  pub eleven : NeverRefused index es 11
+  pub twelve : NeverRefused index es 12
 
 -- no list of at most 96 entries leads there
 unfoldable pub Far : List Setting → List Setting → Type 0
 Far s w = (fs : List Entry) → LeadsTo s w fs → 96 < length fs
 
 -- what holds of an answer, for the pages v, what the state holds and the wanted settings
-pub record Serves (v : List View) (s : Held) (w : List Setting) (answer : Offer) : Type 0 where
+pub record Serves (v : List View) (s : Held) (w : List Setting) (answer : Wanted) : Type 0 where
   pub shortest : (es : List Entry) → answer ≡ group es → Fewest (present v s) w es
+  pub ordered : (es : List Entry) → answer ≡ group es → InOrder es
   pub appends : (es : List Entry) → answer ≡ group es → 1 ≤ length es → Appendable (s .index) es
   -- 'none' exactly if every list that leads there has more than 96 entries
   pub none-far : answer ≡ none → Far (present v s) w
@@ -55,11 +77,19 @@ pub record Serves (v : List View) (s : Held) (w : List Setting) (answer : Offer)
 unfoldable pub Served : Type 0
 Served = (n : ℕ) (v : List View) (s : Held) (w : List Setting) → Serves v s w (wantedOf n v s w)
 
+-- "what Paper 2's wanted list would need": where the answer of the definition is 11, every list that leads there has an entry that sets valve 0
+unfoldable pub ZeroNeeded : Type 0
+ZeroNeeded =
+    (n : ℕ) (v : List View) (s : Held) (w : List Setting) (fs : List Entry)
+    → wantedOf n v s w ≡ turnedBack 11
+    → LeadsTo (present v s) w fs
+    → all (λ e. not (eqb (e .key) 0)) fs ≡ false
+
 -- the answer that the code's struct stands for
-unfoldable pub offerOf : Offered → Offer
-offerOf r = cond (eqb (r .number) 0) (cond (r .found) (group (listed (r .group))) none) (turnedBack (r .number))
+unfoldable pub answerIn : WantedAnswer → Wanted
+answerIn r = cond (eqb (r .number) 0) (cond (r .found) (group (listed (r .group))) none) (turnedBack (r .number))
 
 -- of whatever the call answers, by its promise
 unfoldable pub ServedByCall : Type 0
 ServedByCall =
-    (m : List ℕ) (s : State) (records : List Record) (r : Offered) → Offers m s records r → Serves (views m) (meaning s) (settingsOf records) (offerOf r)
+    (m : List ℕ) (s : State) (records : List Record) (r : WantedAnswer) → AnswersWanted m s records r → Serves (views m) (meaning s) (wantedSettings records) (answerIn r)

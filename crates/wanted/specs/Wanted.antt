@@ -11,21 +11,21 @@ use Rattle.lists.specs.Needs.{Need, need, checked}
 use Rattle.lists.specs.Cells.{Entry, Setting, listed}
 use Rattle.page.specs.Pages.{View}
 use Rattle.flash.specs.Medium.{views}
-use Rattle.index.specs.Index.{rising, mostValves}
+use Rattle.index.specs.Index.{rising, mostValves, entriesAllowed}
 use Rattle.blocks.specs.Blocks.{sizeOk}
 use Rattle.nodes.specs.Nodes.{sound, words}
 use Rattle.state.specs.declared.State.{State}
 use Rattle.state.specs.State.{Held, fit, meaning}
 use Rattle.records.specs.declared.Record.{Record}
-use Rattle.records.specs.Records.{settingsOf}
+use Rattle.records.specs.Records.{wantedSettings}
 use Rattle.wanted_group.specs.Group.{isValve, groupFor, differing}
-use Rattle.wanted.specs.declared.Offered.{Offered}
+use Rattle.wanted.specs.declared.WantedAnswer.{WantedAnswer}
 
 -- refused with a number, 'none', or the group
-pub data Offer : Type 0 where
-  turnedBack : ℕ → Offer
-  none : Offer
-  group : List Entry → Offer
+pub data Wanted : Type 0 where
+  turnedBack : ℕ → Wanted
+  none : Wanted
+  group : List Entry → Wanted
 
 -- "the present settings": the valves of the lent state's index, each with the word at its address
 abbrev pub present : List View → Held → List Setting
@@ -39,7 +39,9 @@ valvesOk w = every (rising w ∷ all isValve w ∷ [])
 unfoldable pub fewRecords : List Setting → Bool
 fewRecords w = leb (length w) mostValves
 
--- "Both follow 7, in this order, before 6, whose last clause is here taken over the whole index."
+-- "Both follow 7, in this order, before 6, whose last clause is here taken over the whole index." Paper 8: "condition 11 also covers an entry that
+-- sets valve 0, in an append or as what Paper 2's wanted list would need (there after 6 and before 'none')". So it is asked of the group that would
+-- lead there, also where that has more than 96 entries.
 abbrev pub wantedNeeds : ℕ → List View → Held → List Setting → List Need
 wantedNeeds n v s w =
     need 1 (sizeOk n)
@@ -47,14 +49,15 @@ wantedNeeds n v s w =
     ∷ need 19 (valvesOk w)
     ∷ need 20 (fewRecords w)
     ∷ need 6 (sound v (s .index))
+    ∷ need 11 (entriesAllowed (groupFor (present v s) w))
     ∷ []
 
 -- "The answer is 'none' exactly if more than 96 valves differ, and an empty group if none does."
-unfoldable pub offerFor : List Setting → List Setting → Offer
-offerFor now w = cond (leb (differing now w) 96) (group (groupFor now w)) none
+unfoldable pub wantedFor : List Setting → List Setting → Wanted
+wantedFor now w = cond (leb (differing now w) 96) (group (groupFor now w)) none
 
-unfoldable pub wantedOf : ℕ → List View → Held → List Setting → Offer
-wantedOf n v s w = checked turnedBack (wantedNeeds n v s w) (offerFor (present v s) w)
+unfoldable pub wantedOf : ℕ → List View → Held → List Setting → Wanted
+wantedOf n v s w = checked turnedBack (wantedNeeds n v s w) (wantedFor (present v s) w)
 
 -- ---- the call
 
@@ -65,15 +68,15 @@ pub record Told : Type 0 where
   pub found : Bool
   pub entries : List Entry
 
-unfoldable pub told : Offer → Told
+unfoldable pub told : Wanted → Told
 told (turnedBack n) = record { number = n; found = false; entries = [] }
 told none = record { number = 0; found = false; entries = [] }
 told (group es) = record { number = 0; found = true; entries = es }
 
--- what the code's struct says
-abbrev pub saidBy : Offered → Told
+-- what the code's struct says: the group's entries are those below its count; what its arrays hold past that is open and means nothing
+abbrev pub saidBy : WantedAnswer → Told
 saidBy r = record { number = r .number; found = r .found; entries = listed (r .group) }
 
 -- what the call promises of a medium m, a state s and a lent list of records
-abbrev pub Offers : List ℕ → State → List Record → Offered → Type 0
-Offers m s records r = saidBy r ≡ told (wantedOf (length m) (views m) (meaning s) (settingsOf records))
+abbrev pub AnswersWanted : List ℕ → State → List Record → WantedAnswer → Type 0
+AnswersWanted m s records r = saidBy r ≡ told (wantedOf (length m) (views m) (meaning s) (wantedSettings records))

@@ -11,8 +11,8 @@ ghost use Rattle.flash.specs.Medium.{views};
 ghost use Rattle.index.specs.Index.{rising};
 ghost use Rattle.state.specs.State.{meaning};
 ghost use Rattle.wanted_group.specs.Group.{isValve};
-ghost use Rattle.wanted.specs.Wanted.{turnedBack, told, saidBy, Offers};
-ghost use Rattle.wanted.specs.Noted.{recordNeeds, Orderly, offerOr6, wantedBy};
+ghost use Rattle.wanted.specs.Wanted.{turnedBack, told, saidBy, AnswersWanted};
+ghost use Rattle.wanted.specs.Noted.{recordNeeds, Orderly, afterRecords, wantedBy};
 use lists::Cells;
 use records::Notes;
 use records::Record;
@@ -21,18 +21,18 @@ use state::State;
 // The answer of `wanted`: 0 and whether at most 96 valves differ, with the group then, or a refusal's number. Beside a refusal `found` is false;
 // where there is no group, `group` holds no entry.
 #[repr(C)]
-pub struct Offered {
+pub struct WantedAnswer {
     pub number: u8,
     pub found: bool,
     pub group: Cells,
 }
 
 // A refusal.
-fn refused(number: u8) -> Offered
+fn refused(number: u8) -> WantedAnswer
     ensures { λ r. ⌜ saidBy r ≡ told (turnedBack number) ⌝ }
 {
     let no_entries = index::empty();
-    Offered {
+    WantedAnswer {
         number: number,
         found: false,
         group: no_entries,
@@ -52,19 +52,22 @@ fn record_number(n: Notes) -> u8
     0
 }
 
-// The group that leads from the settings of an index to the wanted ones, or 6.
-fn offer(m: &[u8], index: Cells, w: Cells) -> Offered
+// The group that leads from the settings of an index to the wanted ones, or 6, or 11.
+fn from_index(m: &[u8], index: Cells, w: Cells) -> WantedAnswer
     requires { ⌜ (index .count ≤ 192) × (rising (listed index) ≡ true) × (all isValve (listed index) ≡ true) × (w .count ≤ 192) × (rising (listed w) ≡ true) × (all isValve (listed w) ≡ true) ⌝ }
-    ensures { λ r. ⌜ saidBy r ≡ told (offerOr6 (views (now (m .entry))) (listed index) (listed w)) ⌝ }
+    ensures { λ r. ⌜ saidBy r ≡ told (afterRecords (views (now (m .entry))) (listed index) (listed w)) ⌝ }
 {
     let present = settings::present(m, index);
     if !present.sound {
         return refused(6);
     }
     let settings = present.cells;
+    if !wanted_group::entries_allowed(settings, w) {
+        return refused(11);
+    }
     let limited = wanted_group::group(settings, w);
     let group = limited.cells;
-    Offered {
+    WantedAnswer {
         number: 0,
         found: limited.found,
         group: group,
@@ -72,7 +75,7 @@ fn offer(m: &[u8], index: Cells, w: Cells) -> Offered
 }
 
 // The answer, from what was noted of the records.
-fn answer(m: &[u8], s: State, n: Notes) -> Offered
+fn answer(m: &[u8], s: State, n: Notes) -> WantedAnswer
     requires { ⌜ Orderly n ⌝ }
     ensures { λ r. ⌜ saidBy r ≡ told (wantedBy (length (now (m .entry))) (views (now (m .entry))) (meaning s) n) ⌝ }
 {
@@ -92,12 +95,12 @@ fn answer(m: &[u8], s: State, n: Notes) -> Offered
         vals: vals,
     };
     let index = s.index;
-    offer(m, index, w)
+    from_index(m, index, w)
 }
 
 // The group that leads from the present settings to the wanted records.
-pub fn wanted<'a, 'b>(m: &'a [u8], s: State, list: &'b [Record]) -> Offered
-    ensures { λ r. ⌜ Offers (now (m .entry)) s (now (list .entry)) r ⌝ }
+pub fn wanted<'a, 'b>(m: &'a [u8], s: State, list: &'b [Record]) -> WantedAnswer
+    ensures { λ r. ⌜ AnswersWanted (now (m .entry)) s (now (list .entry)) r ⌝ }
 {
     let n = records::gather(list);
     answer(m, s, n)

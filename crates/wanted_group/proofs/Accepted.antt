@@ -1,67 +1,22 @@
--- Conditions 11 and 12 accept the group.
+-- Condition 12 accepts the group.
 use mathlib.Core.Path.{_≡_, refl, sym, ap, _∙_}
-use mathlib.Core.Bool.{Bool, true, false, cond, _&&_}
+use mathlib.Core.Bool.{true, false, cond}
 use mathlib.Core.Option.{Option, none, some}
 use mathlib.Core.List.{List, [], _∷_, _++_}
 use Prim.Native.Nat.{ℕ, suc, _+_, _-_, _≤_}
 use native.Mathlib.Omega.{arith}
 use lib.ListN.{length}
 use lib.Dec.{leb, ltb, eqb}
-use borrow.Author.Tests.{le-leb, le-ltb, eq-eqb}
+use borrow.Author.Tests.{le-leb, le-ltb}
 use Rattle.lists.specs.declared.Cell.{Cell}
 use Rattle.lists.specs.Lists.{all, isSome}
-use Rattle.lists.specs.Cells.{cell}
-use Rattle.lists.proofs.Laws.{by-cases, and-l, and-r, and-both, all-head, all-tail, all-cons, true-false}
-use Rattle.index.specs.Index.{lookup, risingFrom, rising, assign, assignAll, remove, within, removalOk, removalsOk}
+use Rattle.lists.proofs.Laws.{by-cases, and-l, and-r, and-both, all-head, all-tail, true-false}
+use Rattle.index.specs.Index.{lookup, risingFrom, rising, assign, assignAll, remove, within}
 use Rattle.index.proofs.Rising.{rising-tail, assign-rising}
 use Rattle.index.proofs.Assigned.{lookup-below}
 use Rattle.wanted_group.specs.Group.{isValve, removalsFor, settingsFor, groupFor}
 use Rattle.wanted_group.proofs.Lookup.{valve, three, lookup-none, lookup-here, lookup-past, lookup-before, lookup-other, assign-else}
 use Rattle.wanted_group.proofs.Leads.{by-eq, gone, told-removals, lookup-all, all-rising, removal, setting-valve, isWanted, stands, removals-kept, removals-gone, settings-same, settings-new}
-
--- ---- 11
-
-removal-ok : (x : Cell) → removalOk (removal x) ≡ true
-unfolding removalOk
-removal-ok x = by-cases (ltb (x .key + 32768) 32768) (λ b. rw b) (λ b. rw (b, eq-eqb 0 0 refl))
-
-setting-ok : (y : Cell) → isValve y ≡ true → removalOk y ≡ true
-unfolding removalOk isValve
-setting-ok y h = rw h
-
-ok-none : removalsOk [] ≡ true
-unfolding removalsOk all
-ok-none = refl
-
-ok-cons : (e : Cell) (es : List Cell) → removalOk e ≡ true → removalsOk es ≡ true → removalsOk (e ∷ es) ≡ true
-unfolding removalsOk
-ok-cons e es p q = all-cons removalOk e es p q
-
-ok-append : (es fs : List Cell) → removalsOk es ≡ true → removalsOk fs ≡ true → removalsOk (es ++ fs) ≡ true
-unfolding removalsOk
-ok-append [] fs p q = q
-ok-append (e ∷ es) fs p q = all-cons removalOk e (es ++ fs) (all-head removalOk e es p) (ok-append es fs (all-tail removalOk e es p) q)
-
-ok-removals : (s w : List Cell) → removalsOk (removalsFor s w) ≡ true
-unfolding removalsFor
-ok-removals [] w = ok-none
-ok-removals (x ∷ xs) w =
-    by-cases (isWanted w x)
-    (λ b. ap removalsOk (removals-kept x xs w b) ∙ ok-removals xs w)
-    (λ b. ap removalsOk (removals-gone x xs w b) ∙ ok-cons (removal x) (removalsFor xs w) (removal-ok x) (ok-removals xs w))
-
-ok-settings : (s w : List Cell) → all isValve w ≡ true → removalsOk (settingsFor s w) ≡ true
-unfolding settingsFor
-ok-settings s [] a = ok-none
-ok-settings s (y ∷ ys) a =
-    let rest = ok-settings s ys (all-tail isValve y ys a) in
-    by-cases (stands s y)
-    (λ b. ap removalsOk (settings-same s y ys b) ∙ rest)
-    (λ b. ap removalsOk (settings-new s y ys b) ∙ ok-cons y (settingsFor s ys) (setting-ok y (all-head isValve y ys a)) rest)
-
-pub group-removals-ok : (s w : List Cell) → all isValve w ≡ true → removalsOk (groupFor s w) ≡ true
-unfolding groupFor
-group-removals-ok s w a = ok-append (removalsFor s w) (settingsFor s w) (ok-removals s w) (ok-settings s w a)
 
 -- ---- a rising list whose valves are all valves of another is not longer
 

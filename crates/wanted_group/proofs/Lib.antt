@@ -2,5 +2,6 @@ pub mod Lookup
 pub mod Leads
 pub mod Counting
 pub mod Fewest
+pub mod Eleven
 pub mod Accepted
 pub mod Turns

@@ -9,7 +9,7 @@ use Rattle.lists.specs.Lists.{isSome, countBelow}
 use Rattle.lists.specs.Cells.{cell, Entry, Setting}
 use Rattle.index.specs.Index.{lookup}
 
--- "A valve number is 0 to 32767."
+-- a key that is not "above 32767" (condition 19), so that an entry with it sets a valve
 unfoldable pub isValve : Setting → Bool
 isValve x = ltb (x .key) 32768
 

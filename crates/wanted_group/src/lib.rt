@@ -6,7 +6,7 @@ ghost use mathlib.Core.List.{_++_};
 ghost use Prim.Native.Nat.{_≤_};
 ghost use Rattle.lists.specs.Lists.{isSome, all};
 ghost use Rattle.lists.specs.Cells.{listed, pairs};
-ghost use Rattle.index.specs.Index.{lookup, rising};
+ghost use Rattle.index.specs.Index.{lookup, rising, entriesAllowed};
 ghost use Rattle.index.specs.Search.{Kept};
 ghost use Rattle.index.specs.Lent.{Lent};
 ghost use Rattle.wanted_group.specs.Group.{isValve, same, removalsFor, settingsFor, groupFor};
@@ -143,4 +143,16 @@ pub fn group(s: Cells, w: Cells) -> Limited
     let a = removals(s, &w.keys, &w.vals, w.count);
     let b = settings(&s.keys, &s.vals, s.count, w);
     appended(a, b)
+}
+
+// Whether condition 11 takes the group, all of it, also where it has more than 96 entries: valve 0 is not wanted, or stands so already.
+pub fn entries_allowed(s: Cells, w: Cells) -> bool
+    requires { ⌜ (s .count ≤ 192) × (w .count ≤ 192) × (rising (listed s) ≡ true) × (rising (listed w) ≡ true) × (all isValve (listed w) ≡ true) ⌝ }
+    ensures { λ r. ⌜ r ≡ entriesAllowed (groupFor (listed s) (listed w)) ⌝ }
+{
+    let wanted = index::find_in(&w.keys, &w.vals, w.count, 0);
+    match wanted {
+        Found::At(word) => is_at(&s.keys, &s.vals, s.count, 0, word),
+        Found::Missing => true,
+    }
 }

@@ -35,13 +35,13 @@ use denote.Exit.{yes}
 use denote.Triple.Clauses.{ensured, lasts}
 use Rattle.state.specs.declared.State.{State}
 use Rattle.records.specs.declared.Record.{Record}
-use Rattle.wanted.specs.declared.Offered.{Offered}
-use Rattle.wanted.specs.Wanted.{Offers}
+use Rattle.wanted.specs.declared.WantedAnswer.{WantedAnswer}
+use Rattle.wanted.specs.Wanted.{AnswersWanted}
 use Rattle.records.proofs.Record as R₀
 use Rattle.state.proofs.State as S₀
 use Rattle.state.proofs.State.Laws as S′
-use Rattle.wanted.proofs.Offered as D₀
-use Rattle.wanted.proofs.Offered.Laws as D′
+use Rattle.wanted.proofs.WantedAnswer as D₀
+use Rattle.wanted.proofs.WantedAnswer.Laws as D′
 use Rattle.wanted.proofs.wanted as wanted
 use Rattle.wanted.proofs.wanted.Symbol as wanted-def
 use Rattle.wanted.proofs.wanted.Symbol.{name as #wanted}
@@ -99,10 +99,10 @@ module _ {M : Type 1} (𝓤 : URA M) (H : Heap 𝓤) (A : Atoms 𝓤) (W : Given
       move ! (1 ∷ []) $ fsplit ! $ nothing ! $ move ! (2 ∷ 0 ∷ []) $ fjoin ! $ owned ! S (Is S) (LL.makes S₀.the-type S′.the-plain 𝓤 H A) s _ isS $ fjoin ! $
       move ! (1 ∷ 0 ∷ []) $ fjoin ! $ move ! (1 ∷ 0 ∷ []) $ join ! $ frame ! $ done !
 
-  wanted-said : (r : Offered) → ent 𝓤 (ensured 𝓤 H A wanted.ended (wanted.clauses 𝓤 H A at-mem run) (κ, (κ′, tt)) (m, (s, (l, tt))) tt r) (fact 𝓤 (Offers (now m) s (now l) r))
-  wanted-said r = exE 𝓤 _ (λ ws. snd∗ 𝓤 (sem 𝓤 H A (lasts wanted.ended (κ, (κ′, tt)) (m, (s, (l, tt))) ws)) (fact 𝓤 (Offers (now m) s (now l) r)))
+  wanted-said : (r : WantedAnswer) → ent 𝓤 (ensured 𝓤 H A wanted.ended (wanted.clauses 𝓤 H A at-mem run) (κ, (κ′, tt)) (m, (s, (l, tt))) tt r) (fact 𝓤 (AnswersWanted (now m) s (now l) r))
+  wanted-said r = exE 𝓤 _ (λ ws. snd∗ 𝓤 (sem 𝓤 H A (lasts wanted.ended (κ, (κ′, tt)) (m, (s, (l, tt))) ws)) (fact 𝓤 (AnswersWanted (now m) s (now l) r)))
 
-  exits : (r : Offered) (u : Val) → Offers (now m) s (now l) r → ent 𝓤 (⋆ 𝓤 H A (‵ (D₀.the-row .own r (u ∷ [])) ∷ tokens ∷ ‵ OwnL ∷ ‵ ftrue ∷ ‵ OwnM ∷ [])) (Post u)
+  exits : (r : WantedAnswer) (u : Val) → AnswersWanted (now m) s (now l) r → ent 𝓤 (⋆ 𝓤 H A (‵ (D₀.the-row .own r (u ∷ [])) ∷ tokens ∷ ‵ OwnL ∷ ‵ ftrue ∷ ‵ OwnM ∷ [])) (Post u)
   exits r u e =
       qed W (‵ (D₀.the-row .own r (u ∷ [])) ∷ tokens ∷ ‵ OwnL ∷ ‵ ftrue ∷ ‵ OwnM ∷ []) ∵
       suffices ! _ (ends-at 𝓤 H A vj-wanted.ended stayed (vj-wanted.clauses 𝓤 H A at-mem run) W (((κ, (κ′, tt)), (q, (q′, tt)), tt, (m, (s, (l, tt))), at), tt) u r (tt, (tt, (tt, tt)))
@@ -124,9 +124,9 @@ module _ {M : Type 1} (𝓤 : URA M) (H : Heap 𝓤) (A : Atoms 𝓤) (W : Given
         move ! (4 ∷ 1 ∷ []) $ fjoin ! $ move ! (1 ∷ 0 ∷ []) $ use2 W (raw (Wanted 𝓤 H A at-mem run .pre to-wanted)) goes-wanted $
         calls-at ! fm (Wanted 𝓤 H A at-mem run) known-wanted to-wanted (and-then ! (load ! (from ! (stop !)) (look ! 8 refl)) (and-then ! (load ! (from ! (stop !)) (look ! 6 refl))
         (and-then ! (load ! (from ! (stop !)) (look ! 4 refl)) (no-more !)))) (λ u.
-        use1 W (later (some (λ (r : Offered). (tokens ⊛ ‵ (D₀.the-row .own r (u ∷ []))) ⊛ raw (ensured 𝓤 H A wanted.ended (wanted.clauses 𝓤 H A at-mem run) (κ, (κ′, tt))
+        use1 W (later (some (λ (r : WantedAnswer). (tokens ⊛ ‵ (D₀.the-row .own r (u ∷ []))) ⊛ raw (ensured 𝓤 H A wanted.ended (wanted.clauses 𝓤 H A at-mem run) (κ, (κ′, tt))
         (m, (s, (l, tt))) tt r)))) (id⊢ 𝓤 _) $ await ! tt $ pick ! (λ r.
-        split ! $ move ! (1 ∷ []) $ use1 W (raw (fact 𝓤 (Offers (now m) s (now l) r))) (wanted-said r) $ heard ! (Offers (now m) s (now l) r) (λ e. split ! $ move ! (1 ∷ []) $
+        split ! $ move ! (1 ∷ []) $ use1 W (raw (fact 𝓤 (AnswersWanted (now m) s (now l) r))) (wanted-said r) $ heard ! (AnswersWanted (now m) s (now l) r) (λ e. split ! $ move ! (1 ∷ []) $
         peeks ! D₀.the-row (Is D₀.the-row) (shows 𝓤 H A D₀.the-row) r (u ∷ []) (λ is.
         -- [the result; the tokens; what list owns; true; what m owns; _3; …; _2; …; _1; …; room for _0; …]
         land ! (from ! (stop !)) (init ! 11 refl (LL.lawful D₀.the-type D′.the-laws 𝓤 H A W .typed r _ is .0)) $

@@ -1,4 +1,4 @@
-use Rattle.wanted.proofs.Laws.{answer-state, state-valves, answer-records, records-few, records-rise, records-valves, answer-offer}
+use Rattle.wanted.proofs.Laws.{answer-state, state-valves, answer-records, records-few, records-rise, records-valves, answer-index}
 use Rattle.state.proofs.Laws.{state-few, state-rises}
 use borrow.Author.Needs.{needs}
 use Rattle.wanted.proofs.answer.Statement.{statement}
@@ -6,7 +6,7 @@ use Rattle.wanted.proofs.answer.Tie as tie
 use Rattle.wanted.proofs.answer.Reads as reads
 use Rattle.wanted.proofs.answer.Lts as lts
 use Rattle.state.proofs.state_number.Reads as state-number-reads
-use Rattle.wanted.proofs.offer.Reads as offer-reads
+use Rattle.wanted.proofs.from_index.Reads as from-index-reads
 use Rattle.wanted.proofs.record_number.Reads as record-number-reads
 use Rattle.wanted.proofs.refused.Reads as refused-reads
 
@@ -35,12 +35,12 @@ returns-2 : tie.Need-returns-2
 returns-2 c = search answer-records
 
 -- src/lib.rt:96:5
-offer-requires : tie.Need-offer-requires
-offer-requires c κs = (search state-few, search state-rises, search state-valves, search records-few, search records-rise, search records-valves)
+from-index-requires : tie.Need-from-index-requires
+from-index-requires c κs = (search state-few, search state-rises, search state-valves, search records-few, search records-rise, search records-valves)
 
 -- src/lib.rt:76:1
 returns-3 : tie.Need-returns-3
-returns-3 c = search answer-offer
+returns-3 c = search answer-index
 
 pub answer-spec : {M : Type 1} → statement M
 answer-spec =
@@ -52,5 +52,5 @@ answer-spec =
     record-number-requires
     refused-requires-2
     returns-2
-    offer-requires
+    from-index-requires
     returns-3)

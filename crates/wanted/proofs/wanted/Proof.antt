@@ -40,8 +40,8 @@ use Rattle.state.specs.declared.State.{State}
 use Rattle.records.specs.declared.Record.{Record}
 use Rattle.records.specs.declared.Notes.{Notes}
 use Rattle.records.specs.Records.{unnoted, notedAll}
-use Rattle.wanted.specs.declared.Offered.{Offered}
-use Rattle.wanted.specs.Wanted.{told, saidBy, Offers}
+use Rattle.wanted.specs.declared.WantedAnswer.{WantedAnswer}
+use Rattle.wanted.specs.Wanted.{told, saidBy, AnswersWanted}
 use Rattle.wanted.specs.Noted.{Orderly, wantedBy}
 use Rattle.wanted.proofs.Noted.{notes-orderly, notes-wanted}
 use Rattle.records.proofs.Record as R₀
@@ -49,8 +49,8 @@ use Rattle.records.proofs.Notes as N₀
 use Rattle.records.proofs.Notes.Laws as N′
 use Rattle.state.proofs.State as S₀
 use Rattle.state.proofs.State.Laws as S′
-use Rattle.wanted.proofs.Offered as D₀
-use Rattle.wanted.proofs.Offered.Laws as D′
+use Rattle.wanted.proofs.WantedAnswer as D₀
+use Rattle.wanted.proofs.WantedAnswer.Laws as D′
 use Rattle.records.proofs.gather as gather
 use Rattle.records.proofs.gather.Symbol as gather-def
 use Rattle.records.proofs.gather.Symbol.{name as #gather}
@@ -93,7 +93,7 @@ module _ {M : Type 1} (𝓤 : URA M) (H : Heap 𝓤) (A : Atoms 𝓤) (W : Given
   abbrev vl : Val
   vl = sliceVal (l .ptr) (length (l .now))
 
-  abbrev Says : Notes → Offered → Type 0
+  abbrev Says : Notes → WantedAnswer → Type 0
   Says n r = saidBy r ≡ told (wantedBy (length (now m)) (views (now m)) (meaning s) n)
 
   abbrev at : Vals wanted.signature (κ, (κ′, tt))
@@ -126,10 +126,10 @@ module _ {M : Type 1} (𝓤 : URA M) (H : Heap 𝓤) (A : Atoms 𝓤) (W : Given
       nothing ! $ move ! (1 ∷ 0 ∷ []) $ join ! $ says ! o $ frame ! $ nothing ! $ owned ! N (Is N) (LL.makes N₀.the-type N′.the-plain 𝓤 H A) n _ isN $ fjoin ! $
       owned ! S (Is S) (LL.makes S₀.the-type S′.the-plain 𝓤 H A) s _ isS $ fjoin ! $ move ! (1 ∷ 0 ∷ []) $ fjoin ! $ done !
 
-  answer-said : (n : Notes) (r : Offered) → ent 𝓤 (ensured 𝓤 H A answer.ended (answer.clauses 𝓤 H A at-mem run) (κ, tt) (m, (s, (n, tt))) tt r) (fact 𝓤 (Says n r))
+  answer-said : (n : Notes) (r : WantedAnswer) → ent 𝓤 (ensured 𝓤 H A answer.ended (answer.clauses 𝓤 H A at-mem run) (κ, tt) (m, (s, (n, tt))) tt r) (fact 𝓤 (Says n r))
   answer-said n r = exE 𝓤 _ (λ ws. snd∗ 𝓤 (sem 𝓤 H A (lasts answer.ended (κ, tt) (m, (s, (n, tt))) ws)) (fact 𝓤 (Says n r)))
 
-  exits : (r : Offered) (u : Val) → Offers (now m) s (now l) r
+  exits : (r : WantedAnswer) (u : Val) → AnswersWanted (now m) s (now l) r
       → ent 𝓤 (⋆ 𝓤 H A (‵ (D₀.the-row .own r (u ∷ [])) ∷ (‵ (flft κ q) ⊛ ‵ ftrue) ∷ (‵ (flft κ′ q′) ⊛ ‵ ftrue) ∷ ‵ OwnL ∷ ‵ ftrue ∷ ‵ OwnM ∷ [])) (Post u)
   exits r u e =
       qed W (‵ (D₀.the-row .own r (u ∷ [])) ∷ (‵ (flft κ q) ⊛ ‵ ftrue) ∷ (‵ (flft κ′ q′) ⊛ ‵ ftrue) ∷ ‵ OwnL ∷ ‵ ftrue ∷ ‵ OwnM ∷ []) ∵
@@ -163,7 +163,7 @@ module _ {M : Type 1} (𝓤 : URA M) (H : Heap 𝓤) (A : Atoms 𝓤) (W : Given
         move ! (1 ∷ 4 ∷ []) $ use2 W (raw (Answer 𝓤 H A at-mem run .pre (to-answer n u))) (goes-answer n u isN (subst Orderly (sym e) (notes-orderly (now l)))) $
         calls-at ! fm (Answer 𝓤 H A at-mem run) known-answer (to-answer n u) (and-then ! (load ! (from ! (stop !)) (look ! 11 refl)) (and-then ! (load ! (from ! (stop !)) (look ! 9 refl))
         (and-then ! (load ! (from ! (stop !)) (look ! 5 refl)) (no-more !)))) (λ u′.
-        use1 W (later (some (λ (r : Offered). ((‵ (flft κ q) ⊛ ‵ ftrue) ⊛ ‵ (D₀.the-row .own r (u′ ∷ []))) ⊛ raw (ensured 𝓤 H A answer.ended (answer.clauses 𝓤 H A at-mem run) (κ, tt)
+        use1 W (later (some (λ (r : WantedAnswer). ((‵ (flft κ q) ⊛ ‵ ftrue) ⊛ ‵ (D₀.the-row .own r (u′ ∷ []))) ⊛ raw (ensured 𝓤 H A answer.ended (answer.clauses 𝓤 H A at-mem run) (κ, tt)
         (m, (s, (n, tt))) tt r)))) (id⊢ 𝓤 _) $ await ! tt $ pick ! (λ r.
         split ! $ move ! (1 ∷ []) $ use1 W (raw (fact 𝓤 (Says n r))) (answer-said n r) $ heard ! (Says n r) (λ e′. split ! $ move ! (1 ∷ []) $
         peeks ! D₀.the-row (Is D₀.the-row) (shows 𝓤 H A D₀.the-row) r (u′ ∷ []) (λ is.
