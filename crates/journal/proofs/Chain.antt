@@ -25,7 +25,7 @@ use Rattle.recovery.specs.Recovery.{Recovery, recover as recoverOf}
 use Rattle.recover.specs.declared.Recovered.{Recovered}
 use Rattle.recover.specs.Told as told
 use Rattle.recover.specs.Told.{Recovers}
-use Rattle.readings.specs.Readings.{filed, readInto, readLog, Opening, openingOf, pickOf}
+use Rattle.readings.specs.Readings.{filed, readInto, readLog, Opening, openingOf, pickOf, filedSettings, readSettings}
 use Rattle.read.specs.Answers.{wordOr6}
 use Rattle.calls.specs.Calls.{Call, Buffering, formatOf, bufferNeeds, bufferOf}
 use Rattle.step.specs.Step.{Step, mediumAfter, bufferAfter}
@@ -40,6 +40,8 @@ use Rattle.valve_log.specs.Reached.{World, world, withState, stepDue, Event, fr
 use Rattle.valve_log.specs.Steady.{Steady, Answers}
 use Rattle.valve_log.proofs.Point3.{point3}
 use Rattle.valve_log.proofs.Steady.{steady}
+use Rattle.valve_log.specs.Settings.{SettingsTold}
+use Rattle.valve_log.proofs.Settings.{settings-told}
 use Rattle.journal.specs.Run.{Machine, meant, worldOf, goingOn, lentOn, Moves, begunBy, steppedBy, recoveredBy, toldBy, saysFinished, finishedBy, meanwhileBy, Formatting, Run, openingIn, Handed, Point3OfCode}
 
 -- ---- one event
@@ -359,16 +361,28 @@ module _ (w : World) (h : History) (R : reached.Reached w h) (S : Shows (w .medi
   unfolding happen recovered
   after = ap (λ (t : Recovery). recovered w t .after) (S .accepts)
 
+  found : reached.Reached (world (w .medium) (some (S .state)) fresh) (tell h (happen w Event.recover .told))
+  found = subst (λ x. reached.Reached x (tell h (happen w Event.recover .told))) after (reached.next w h Event.recover R)
+
   answers : Answers (w .medium) (S .state) fresh
   unfolding Steady
-  answers =
-      steady (world (w .medium) (some (S .state)) fresh) (tell h (happen w Event.recover .told)) (S .state)
-      (subst (λ x. reached.Reached x (tell h (happen w Event.recover .told))) after (reached.next w h Event.recover R)) refl
+  answers = steady (world (w .medium) (some (S .state)) fresh) (tell h (happen w Event.recover .told)) (S .state) found refl
 
   valve-shown : (valve : ℕ) → openingOf (length (w .medium)) (views (w .medium)) (S .state) valve ≡ openingIn (lookup valve (h .settings))
   valve-shown valve =
       opens (length (w .medium)) (views (w .medium)) (S .state) valve (lookup valve (S .state .index)) _ (size-met (w .medium) (S .state) fresh answers)
       (fit-met (w .medium) (S .state) fresh answers) refl refl ∙ words-open (views (w .medium)) valve (S .same-settings)
+
+  -- a recovery leaves the settings as they are
+  kept : tell h (happen w Event.recover .told) .settings ≡ h .settings
+  unfolding happen recovered tell
+  kept = ap (λ (t : Recovery). tell h (recovered w t .told) .settings) (S .accepts)
+
+  list-shown : (valves ws : List ℕ) → readSettings (length (w .medium)) (views (w .medium)) (S .state) valves ws ≡ filedSettings valves ws (h .settings)
+  unfolding SettingsTold
+  list-shown valves ws =
+      settings-told (world (w .medium) (some (S .state)) fresh) (tell h (happen w Event.recover .told)) (S .state) valves ws found refl
+      ∙ ap (filedSettings valves ws) kept
 
   handed : Handed (w .medium) h
   handed =
@@ -377,6 +391,7 @@ module _ (w : World) (h : History) (R : reached.Reached w h) (S : Shows (w .medi
         log = λ ks ws ns ks′ ws′ ns′ a p. p ∙ log-shown ks ws ns;
         settings = λ r p. subst (λ l. Words (views (w .medium)) l (h .settings)) (sym (ap (λ (x : Held). x .index) (state-is r p))) (S .same-settings);
         opening = λ r valve a p q. q ∙ ap (λ (x : Held). openingOf (length (w .medium)) (views (w .medium)) x valve) (state-is r p) ∙ valve-shown valve;
+        list = λ r valves ws valves′ ws′ a p q. q ∙ ap (λ (x : Held). readSettings (length (w .medium)) (views (w .medium)) x valves ws) (state-is r p) ∙ list-shown valves ws;
       }
     where
       state-is : (r : Recovered) → Recovers (w .medium) r → meaning (r .state) ≡ S .state

@@ -1,3 +1,4 @@
 pub mod Chain
 pub mod Started
 pub mod Weak
+pub mod Wanted

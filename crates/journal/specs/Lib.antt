@@ -1,3 +1,4 @@
 pub mod Run
 pub mod Started
 pub mod Weak
+pub mod Wanted

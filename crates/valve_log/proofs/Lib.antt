@@ -24,5 +24,6 @@ pub mod Weak
 pub mod Once
 pub mod Buffered
 pub mod Word
+pub mod Settings
 pub mod Flushable
 pub mod Older

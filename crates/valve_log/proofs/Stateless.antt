@@ -1,7 +1,7 @@
 -- On a reached medium format and recovery are never refused, and the log is refused by 17 alone.
 use mathlib.Core.Path.{_≡_, sym, ap, _∙_}
 use mathlib.Core.Bool.{true}
-use mathlib.Core.List.{List}
+use mathlib.Core.List.{List, [], _∷_}
 use Prim.Native.Nat.{ℕ}
 use native.Mathlib.Omega.{arith}
 use lib.ListN.{length}
@@ -26,7 +26,7 @@ format-begins n size k e = let f = rw size at e in let z : _≡_ {A = ℕ} 0 1 =
 filed-fairly : (ks ws ns : List ℕ) (log : List (List Entry)) (n : ℕ) → filed ks ws ns log .answer ≡ Answer.turnedBack n → n ≡ 17
 unfolding filed filedWith checked
 filed-fairly ks ws ns log n e =
-    by-cases (longEnough ks ws ns (length (changesOf log)))
+    by-cases (longEnough (ks ∷ ws ∷ ns ∷ []) (length (changesOf log)))
     (λ q. let f = rw q at e in let z : _≡_ {A = ℕ} 0 1 = cc in absurd (omega arith))
     (λ q. let f = rw q at e in cc)
 

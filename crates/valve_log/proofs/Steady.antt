@@ -1,5 +1,5 @@
 -- On a reached medium, with the state last handed back, no call answers 1, 6, 7 or 16.
-use mathlib.Core.Path.{_≡_, refl, ap, _∙_}
+use mathlib.Core.Path.{_≡_, refl, sym, ap, _∙_}
 use mathlib.Core.Bool.{Bool, true, false}
 use mathlib.Core.Option.{Option, none, some}
 use mathlib.Core.List.{List, [], _∷_, _++_}
@@ -19,13 +19,15 @@ use Rattle.flash.proofs.Laws.{length-views}
 use Rattle.flash.proofs.Steps.{program-views}
 use Rattle.index.specs.Index.{within, entriesAllowed, lookup}
 use Rattle.blocks.specs.Blocks.{sizeOk, available}
-use Rattle.nodes.specs.Nodes.{wordAt, sound, live, pickBelow}
+use Rattle.nodes.specs.Nodes.{wordAt, sound, words, live, pickBelow}
 use Rattle.state.specs.State.{Pending, append, commit, collect, flush, Held, groupOk, basePages, pendingFit, fit, fitWith, bufferedIn, stateNeeds}
 use Rattle.recovery.specs.Recovery.{Placed, wholes, sort, lastOf, noPage, Recovery}
 use Rattle.recovery.specs.Recovery
 use Rattle.readings.specs.Readings.{Opening, placeOf, openingNeeds, openingOf, lastNaming, setsAt, soughtIn, sought, wordNumber, Pick, pickedBlock, pickOf, Survey, surveyOf, Supply, availableOf}
+use Rattle.readings.specs.Readings.{Answer, SettingsRead, longEnough, filedSettings, readSettings}
 use Rattle.calls.specs.Calls.{Call, starting, zip, listsOk, roomFor, appendNeeds, appendOf, commitNeeds, commitOf, collectNeeds, collectOf, Buffering, flushNeeds, flushOf, bufferNeeds, bufferOf}
 use Rattle.step.specs.Step.{Step, stepOf, mediumAfter}
+use Rattle.valve_log.specs.Settings.{Stands}
 use Rattle.valve_log.specs.History.{History, Told, beganAppend, beganCommit, beganCollect, putIn, beganFlush}
 use Rattle.valve_log.specs.Reached.{World, world, withState, stepDue, Event, called, stepped, cutShort, recovered, happen, Reached, lentAnew, filled}
 use Rattle.valve_log.specs.Steady.{expected, Answers, Steady}
@@ -250,6 +252,14 @@ call-fair cs s′ F =
     fair (λ (c : Call). (n : ℕ) → c ≡ Call.refused n → expected n ≡ true) Call.refused (Call.begun s′) cs F (λ k e n q. rw (call-number k n q) at e)
     (λ n q. let z : _≡_ {A = ℕ} 0 1 = cc in absurd (omega arith))
 
+-- settings filed are refused by 17 alone
+settings-fairly : (valves ws : List ℕ) (l : List Cell) (n : ℕ) → filedSettings valves ws l .answer ≡ Answer.turnedBack n → n ≡ 17
+unfolding filedSettings checked
+settings-fairly valves ws l n e =
+    by-cases (longEnough (valves ∷ ws ∷ []) (length l))
+    (λ q. let f = rw q at e in let z : _≡_ {A = ℕ} 0 1 = cc in absurd (omega arith))
+    (λ q. let f = rw q at e in cc)
+
 -- a valve that is set has a place in the index
 pub in-lookup : (valve : ℕ) (l : List Place) → isSome (lookup valve l) ≡ true → In (cell valve (valueOr 0 (lookup valve l))) l
 unfolding lookup isSome valueOr
@@ -281,6 +291,23 @@ module _ (m : List ℕ) (s : Held) (bs : List ℕ) (h : History) (U : Upheld (wo
   pub has-word : (valve : ℕ) → isSome (lookup valve (s .index)) ≡ true → isSome (wordAt v (placeOf s valve)) ≡ true
   unfolding sound
   has-word valve e = all-in (λ (x : Cell). isSome (wordAt v x)) index-sound (in-lookup valve (s .index) e)
+
+  -- and the words are the settings
+  words-shown : words v (s .index) ≡ h .settings
+  words-shown = ap (words v) (alive-of (U .coupled .memory) .indices) ∙ U .coupled .medium .shows
+
+  pub standing : Stands m s h
+  standing = record { size = U .size; fits = fits; sounds = index-sound; settings = words-shown }
+
+  pub settings-filed : (valves ws : List ℕ) → readSettings (length m) v s valves ws ≡ filedSettings valves ws (h .settings)
+  unfolding readSettings checked
+  settings-filed valves ws = rw (U .size, fits, index-sound, words-shown)
+
+  settings-answers : (valves ws : List ℕ) (n : ℕ) → readSettings (length m) v s valves ws .answer ≡ Answer.turnedBack n → expected n ≡ true
+  unfolding expected every
+  settings-answers valves ws n e =
+      let f : filedSettings valves ws (h .settings) .answer ≡ Answer.turnedBack n = ap (λ (x : SettingsRead). x .answer) (sym (settings-filed valves ws)) ∙ e in
+      rw (settings-fairly valves ws (h .settings) n f)
 
   append-answers : (ks ws : List ℕ) (n : ℕ) → appendOf (length m) v s bs ks ws ≡ Call.refused n → expected n ≡ true
   unfolding appendOf expected every
@@ -381,6 +408,7 @@ steady w h s R e = answers (w .medium) (w .buffer) (w .state) (reached-upheld w 
           step = step-answers m t bs h U r′;
           opening = opening-answers m t bs h U r′;
           word = word-answers m t bs h U r′;
+          settings = settings-answers m t bs h U r′;
           pick = pick-answers m t bs h U r′;
           survey = survey-answers m t bs h U r′;
           available = available-answers m t bs h U r′;

@@ -6,5 +6,6 @@ pub mod Finished
 pub mod Weak
 pub mod Buffered
 pub mod Word
+pub mod Settings
 pub mod Flushable
 pub mod Older

@@ -9,7 +9,7 @@ use lib.Dec.{leb, ltb}
 use borrow.Author.Tests.{le-leb, lt-leb, leb-true, not-true, not-false}
 use Rattle.lists.specs.declared.Cell.{Cell}
 use Rattle.lists.specs.declared.Cells.{Cells}
-use Rattle.lists.specs.Lists.{all, every, isSome}
+use Rattle.lists.specs.Lists.{all, every}
 use Rattle.lists.specs.Needs.{checked, numberOf}
 use Rattle.lists.specs.Cells.{listed}
 use Rattle.lists.proofs.Laws.{all-weaken, every-at, number-refuses, number-clear, numbered, tests, checked-pass}
@@ -25,6 +25,7 @@ use Rattle.state.proofs.Laws.{passed}
 use Rattle.records.specs.declared.Notes.{Notes}
 use Rattle.settings.specs.declared.Settings.{Settings}
 use Rattle.settings.specs.Present.{presentOf, settingsIn}
+use Rattle.settings.proofs.Told.{present-sound, present-words}
 use Rattle.wanted_group.specs.declared.Limited.{Limited}
 use Rattle.wanted_group.specs.Group.{isValve, groupFor}
 use Rattle.wanted_group.specs.Limited.{Cut, limited, cutBy}
@@ -56,18 +57,6 @@ module _ (n : Notes) where
 
 -- ---- 6, 11 and the group, from the present settings
 
-is-some : (b : Bool) (l : List Cell) → isSome (cond b (some l) none) ≡ b
-unfolding isSome
-is-some true l = refl
-is-some false l = refl
-
-some-is : (b : Bool) (l m : List Cell) → b ≡ true → some l ≡ cond b (some m) none → l ≡ m
-some-is b l m e h = ap value (h ∙ ap (λ (t : Bool). cond t (some m) none) e)
-  where
-    value : Option (List Cell) → List Cell
-    value none = l
-    value (some x) = x
-
 -- what a group cut off at 96 entries says
 abbrev cutTold : Cut → Told
 cutTold c = record { number = 0; found = c .found; entries = c .entries }
@@ -88,8 +77,7 @@ limited-told s w r q a b =
 
 module _ (v : List View) (l : List Cell) (p : Settings) (k : Kept (p .cells .count) (settingsIn p) (presentOf v l)) where
   told-sound : p .sound ≡ sound v l
-  unfolding presentOf
-  told-sound = sym (is-some (p .sound) (listed (p .cells))) ∙ ap isSome (k .so) ∙ is-some (sound v l) (words v l)
+  told-sound = present-sound v l p k
 
   pub index-6 : (w : List Cell) (x : Told) → not (p .sound) ≡ true → x ≡ told (turnedBack 6) → x ≡ told (afterRecords v l w)
   unfolding afterRecords checked
@@ -97,10 +85,7 @@ module _ (v : List View) (l : List Cell) (p : Settings) (k : Kept (p .cells .cou
 
   module _ (h : not (p .sound) ≡ false) where
     told-words : listed (p .cells) ≡ words v l
-    unfolding presentOf
-    told-words =
-        some-is (sound v l) (listed (p .cells)) (words v l) (sym told-sound ∙ not-false (p .sound) h)
-        (sym (ap (λ (t : Bool). cond t (some (listed (p .cells))) none) (not-false (p .sound) h)) ∙ k .so)
+    told-words = present-words v l p k (not-false (p .sound) h)
 
     pub told-few : p .cells .count ≤ 192
     told-few = k .few
