@@ -8,10 +8,13 @@
 #include <stdio.h>
 #include "valve_journal.h"
 
-static uint8_t medium[65536 + 1];
-static uint16_t keys[6144];
-static uint64_t words[6144];
-static uint32_t groups[6144];
+enum { LONGEST = 16 * VJ_BLOCK_BYTES, CHANGES = 16 * VJ_BLOCK_ENTRIES };
+static uint8_t medium[LONGEST + 1];
+static uint16_t keys[CHANGES];
+static uint64_t words[CHANGES];
+static uint32_t groups[CHANGES];
+static uint16_t valves[VJ_MOST_VALVES];
+static uint64_t openings[VJ_MOST_VALVES];
 
 static int refused(unsigned number)
 {
@@ -22,27 +25,25 @@ static int refused(unsigned number)
 int main(void)
 {
     size_t length = fread(medium, 1, sizeof medium, stdin);
-    if (length > 65536)
-        return refused(1);
-    VjCount log = vj_log(medium, length, keys, 6144, words, 6144, groups, 6144);
-    if (log.number != 0)
+    if (length > LONGEST)
+        return refused(VJ_REFUSED_LENGTH);
+    VjCount log = vj_log(medium, length, keys, CHANGES, words, CHANGES, groups, CHANGES);
+    if (log.number != VJ_ACCEPTED)
         return refused(log.number);
     VjRecovered found = vj_recover(medium, length);
-    if (found.number != 0)
+    if (found.number != VJ_ACCEPTED)
         return refused(found.number);
+    VjCount set = vj_settings(medium, length, found.state, valves, VJ_MOST_VALVES, openings, VJ_MOST_VALVES);
+    if (set.number != VJ_ACCEPTED)
+        return refused(set.number);
     printf("log %zu\n", log.count);
     for (size_t i = 0; i < log.count; i++)
-        if (keys[i] < 32768)
+        if (keys[i] < VJ_REMOVAL)
             printf("%" PRIu32 " %u %" PRIu64 "\n", groups[i], (unsigned)keys[i], words[i]);
         else
-            printf("%" PRIu32 " %u -\n", groups[i], (unsigned)keys[i] - 32768);
-    const VjCells *set = &found.state.index;
-    printf("set %zu\n", set->count);
-    for (size_t i = 0; i < set->count; i++) {
-        VjWord opening = vj_opening(medium, length, found.state, set->keys[i]);
-        if (opening.number != 0)
-            return refused(opening.number);
-        printf("%u %" PRIu64 "\n", (unsigned)set->keys[i], opening.word);
-    }
+            printf("%" PRIu32 " %u -\n", groups[i], (unsigned)keys[i] - VJ_REMOVAL);
+    printf("set %zu\n", set.count);
+    for (size_t i = 0; i < set.count; i++)
+        printf("%u %" PRIu64 "\n", (unsigned)valves[i], openings[i]);
     return 0;
 }

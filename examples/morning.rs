@@ -7,46 +7,43 @@
 #[path = "../include/valve_journal.rs"]
 mod valve_journal;
 
+use std::fmt::Write;
 use std::io::Read;
-use valve_journal::{vj_log, vj_opening, vj_recover, VjState};
+use valve_journal::{log, recover, settings, Refusal, BLOCK_BYTES, BLOCK_ENTRIES, MOST_VALVES, REMOVAL};
 
-// The word of a valve, or the number of the refusal.
-fn opening(m: &[u8], state: VjState, valve: u16) -> Result<u64, u8> {
-    let opened = unsafe { vj_opening(m.as_ptr(), m.len(), state, valve) };
-    if opened.number == 0 { Ok(opened.word) } else { Err(opened.number) }
-}
+// The longest medium that the program takes.
+const LONGEST: usize = 16 * BLOCK_BYTES;
 
-// The log, for each change its group's number, key and word, and the state; or the number of the refusal.
-fn read(m: &[u8]) -> Result<(Vec<(u32, u16, u64)>, VjState), u8> {
-    if m.len() > 65536 {
-        return Err(1);
+// The lines of the log and of the settings, or the refusal.
+fn read(medium: &[u8]) -> Result<String, Refusal> {
+    if medium.len() > LONGEST {
+        return Err(Refusal::Length);
     }
-    let (mut keys, mut words, mut groups) = (vec![0u16; 6144], vec![0u64; 6144], vec![0u32; 6144]);
-    let log = unsafe { vj_log(m.as_ptr(), m.len(), keys.as_mut_ptr(), keys.len(), words.as_mut_ptr(), words.len(), groups.as_mut_ptr(), groups.len()) };
-    let found = unsafe { vj_recover(m.as_ptr(), m.len()) };
-    match (log.number, found.number) {
-        (0, 0) => Ok(((0..log.count).map(|i| (groups[i], keys[i], words[i])).collect(), found.state)),
-        (0, number) | (number, _) => Err(number),
+    let most = 16 * BLOCK_ENTRIES;
+    let (mut keys, mut words, mut groups) = (vec![0; most], vec![0; most], vec![0; most]);
+    let changes = log(medium, &mut keys, &mut words, &mut groups)?;
+    let (mut valves, mut openings) = ([0; MOST_VALVES], [0; MOST_VALVES]);
+    let set = settings(medium, &recover(medium)?, &mut valves, &mut openings)?;
+    let mut lines = format!("log {changes}\n");
+    for ((key, word), group) in keys.iter().zip(&words).zip(&groups).take(changes) {
+        if *key < REMOVAL {
+            writeln!(lines, "{group} {key} {word}").expect("a line");
+        } else {
+            writeln!(lines, "{group} {} -", key - REMOVAL).expect("a line");
+        }
     }
+    writeln!(lines, "set {set}").expect("a line");
+    for (valve, word) in valves.iter().zip(&openings).take(set) {
+        writeln!(lines, "{valve} {word}").expect("a line");
+    }
+    Ok(lines)
 }
 
 fn main() {
-    let mut m = Vec::new();
-    std::io::stdin().take(65537).read_to_end(&mut m).expect("standard input");
-    match read(&m) {
-        Err(number) => println!("refused {number}"),
-        Ok((log, state)) => {
-            println!("log {}", log.len());
-            for (group, key, word) in log {
-                if key < 32768 { println!("{group} {key} {word}") } else { println!("{group} {} -", key - 32768) }
-            }
-            println!("set {}", state.index.count);
-            for &valve in &state.index.keys[..state.index.count] {
-                match opening(&m, state, valve) {
-                    Ok(word) => println!("{valve} {word}"),
-                    Err(number) => return println!("refused {number}"),
-                }
-            }
-        }
+    let mut medium = Vec::new();
+    std::io::stdin().take(LONGEST as u64 + 1).read_to_end(&mut medium).expect("standard input");
+    match read(&medium) {
+        Ok(lines) => print!("{lines}"),
+        Err(refusal) => println!("refused {}", refusal as u8),
     }
 }

@@ -5,45 +5,35 @@
  * pages of 256 bytes. Every call takes a medium of any length and any content and answers; none keeps a pointer, allocates, prints or
  * ends the program.
  *
- * Stack, with arguments and answer, measured on x86-64 over media of 256 blocks of every shape: vj_recover 98304 bytes at most, vj_log 90112,
- * vj_step 53248, any other call 40960. tests/tests/stack.rs has the limit of each call and measures it.
- *
  * A lent pointer is aligned for its type and, where its length is not 0, points to that many elements, which nobody else writes while the
- * call runs. What a call writes, be it a list, a buffer or a medium, overlaps nothing else that is lent to the same call.
+ * call runs. Where its length is 0 it may be NULL. What a call writes, be it a list, a buffer or a medium, overlaps nothing else that is
+ * lent to the same call.
  *
  * Only vj_step writes to a medium. An operation is begun by one call, vj_format, vj_append, vj_commit, vj_collect or vj_flush, which hands
  * back the state with the operation pending; then each vj_step makes one device step of it, until it tells that the operation is finished.
  * What a step touched is carried to the chip before the next call. Every call gets the state that the last one handed back.
  *
- * A write buffer is a run of VJ_BUFFER_LENGTH bytes that the caller keeps beside the state. It gathers whole groups, 16 entries at most,
+ * After a cut, where the power or the driver failed, the state is lost and the copy in memory may be ahead of the chip: the chip's bytes are
+ * taken anew, and vj_recover comes next. The group that was under way is then in the log whole or not at all. A cut inside formatting promises
+ * nothing, also if vj_recover accepts what it left: formatting is begun again.
+ *
+ * A write buffer is a run of VJ_BUFFER_BYTES bytes that the caller keeps beside the state. It gathers whole groups, 16 entries at most,
  * which a flush programs as one page. An empty buffer is all FFh. It is lent all FFh after formatting, after a cut and after a recovery;
  * else each call that takes it is lent it as the last such call left it. vj_buffer and vj_step write to it, no other call. What is in the
  * buffer is lost in a cut: a group is on the medium once its flush is finished. A buffer of any length and content may be lent: one that
  * is neither empty nor a page in the making, or of another length, is refused with 7.
  *
- * Numbers of refusals. 0 is no refusal; each call says its numbers in the order in which they are asked, and gives the first that applies.
- *   1  the medium's length is not 4 to 256 times 4096 bytes
- *   2  a whole page breaks the page rules
- *   3  two whole pages share a serial
- *   4  no complete base
- *   5  from the base on, a gap in the serials or a page out of its group
- *   6  the base's valves do not rise, over 192 valves are set, or an address of the index lacks its entry
- *   7  the state does not fit the medium, or the buffer is not well formed or, while a flush is pending, holds nothing that can be flushed
- *   8  an operation is pending
- *   9  no operation is pending
- *  10  the lists of a group differ in length, or have no entry, or over 96; or a flush of an empty buffer
- *  11  a removal's word is not 0, or valve 0 is set
- *  12  more than 192 valves would be set, those of the buffer counted
- *  13  too few pages are available
- *  14  too few serials are left: the next serial and the pages make more than 2^64 - 1
- *  15  the block is not collectible, or there is no such block
- *  16  the page due is not there, or is not clean
- *  17  a lent list is too short
- *  18  the valve is not set
- *  19  the wanted valves do not rise strictly, or one is above 32767
- *  20  there are more than 192 wanted records
- *  23  a group has more entries than the buffer has places left
- *  24  the buffer holds a group where an append, a commit or a collection is begun
+ * Names and types. Calls begin with vj_, types with Vj, constants with VJ_. VJ_x_BYTES, VJ_x_PAGES and VJ_x_ENTRIES say how many bytes, pages
+ * and places for entries an x has; VJ_LEAST_x and VJ_MOST_x the least and the most that there may be. Each type is the library's of the same
+ * size: u8, u16, u32 and u64 are uint8_t to uint64_t, usize is size_t. A lent list is a pointer, say keys, and after it its length in elements,
+ * keys_length. Every answer that can be a refusal has as its first field, or is, the number: 0, or that of the refusal.
+ *
+ * Machines. The archive libjournal_c.a is one ELF object for x86-64 under the System V calling convention, position-independent: it links into
+ * programs and shared objects for x86-64 Linux and other systems of that convention, not for Windows, macOS or other processors. It uses no
+ * instruction beyond SSE2, of other libraries memcpy and memset only, and has no data that it writes to: calls on different media may run at the
+ * same time. A C compiler that lays out a struct otherwise than the library stops at the assertions at the end of this file.
+ *
+ * valve_journal_run.h has whole operations over a chip's driver, each in one call.
  */
 #ifndef VALVE_JOURNAL_H
 #define VALVE_JOURNAL_H
@@ -55,15 +45,111 @@
 extern "C" {
 #endif
 
-/* The most blocks that a medium has. */
-enum { VJ_MOST_BLOCKS = 256 };
+/* The version of this interface: raised by one by each change of the library that adds, alters or takes away a call, a type, a constant or the
+ * meaning of a number. The archive is built from the same commit as this file. */
+#define VJ_INTERFACE_VERSION 1
 
-/* A list of at most 192 numbers under keys, the number under keys[i] in vals[i]. In the index: a valve and the address of its entry,
- * 24 x page + place. In a group: a key and a word; the key is the valve, or 32768 + valve for a removal. */
+/* The version of the layout, that is of what stands on a page: raised by one by each change after which a library before it refuses or
+ * misreads pages that are written now. 1: kinds 1 to 3. 2: kind 4 too, the page that a flush programs. Every version reads the pages of
+ * those before it. */
+#define VJ_LAYOUT_VERSION 2
+
+/* Sizes and limits. */
+enum {
+    VJ_PAGE_BYTES = 256,
+    VJ_BLOCK_PAGES = 16,
+    VJ_BLOCK_BYTES = 4096,
+    VJ_BUFFER_BYTES = 256,   /* a write buffer */
+    VJ_PAGE_ENTRIES = 24,    /* a page of an append or a commit; more entries take more pages */
+    VJ_BLOCK_ENTRIES = 384,  /* the log has no more changes than that for each block of the medium */
+    VJ_BUFFER_ENTRIES = 16,
+    VJ_RESERVE_PAGES = 16,   /* so many stay available after an append or a flush; a commit and a collection may use them */
+    VJ_LEAST_BLOCKS = 4,     /* of a medium */
+    VJ_MOST_BLOCKS = 256,
+    VJ_MOST_VALVES = 192,    /* set at a time */
+    VJ_MOST_ENTRIES = 96,    /* of a group that is appended */
+    VJ_MOST_RECORDS = 192,   /* wanted */
+    VJ_LAST_VALVE = 32767,   /* valves are numbered from 0 to this; 0 is no valve: it can be removed where an old medium has it, not be set */
+    VJ_REMOVAL = 32768       /* the key that removes a valve is the valve + this; a lower key is the valve it sets */
+};
+
+/* The refusals: number, name and text. Each call says its numbers in the order in which they are asked, and gives the first that applies. */
+#define VJ_REFUSALS(X) \
+    X(1, VJ_REFUSED_LENGTH, "the medium's length is not 4 to 256 times 4096 bytes") \
+    X(2, VJ_REFUSED_PAGE_RULES, "a whole page breaks the page rules") \
+    X(3, VJ_REFUSED_SAME_SERIAL, "two whole pages share a serial") \
+    X(4, VJ_REFUSED_NO_BASE, "no complete base") \
+    X(5, VJ_REFUSED_SEQUENCE, "from the base on, a gap in the serials or a page out of its group") \
+    X(6, VJ_REFUSED_INDEX, "the base's valves do not rise, over 192 valves are set, or an address of the index lacks its entry") \
+    X(7, VJ_REFUSED_STATE, "the state does not fit the medium, or the buffer is not well formed or, while a flush is pending, holds nothing that can be flushed") \
+    X(8, VJ_REFUSED_PENDING, "an operation is pending") \
+    X(9, VJ_REFUSED_NONE_PENDING, "no operation is pending") \
+    X(10, VJ_REFUSED_LISTS, "the lists of a group differ in length, or have no entry, or over 96; or a flush of an empty buffer") \
+    X(11, VJ_REFUSED_ENTRY, "a removal's word is not 0, or valve 0 is set") \
+    X(12, VJ_REFUSED_VALVES, "more than 192 valves would be set, those of the buffer counted") \
+    X(13, VJ_REFUSED_PAGES, "too few pages are available") \
+    X(14, VJ_REFUSED_SERIALS, "too few serials are left: the next serial and the pages make more than 2^64 - 1") \
+    X(15, VJ_REFUSED_BLOCK, "the block is not collectible, or there is no such block") \
+    X(16, VJ_REFUSED_PAGE_DUE, "the page due is not there, or is not clean") \
+    X(17, VJ_REFUSED_SHORT_LIST, "a lent list is too short") \
+    X(18, VJ_REFUSED_NOT_SET, "the valve is not set") \
+    X(19, VJ_REFUSED_RECORD, "the wanted valves do not rise strictly, or one is above 32767") \
+    X(20, VJ_REFUSED_RECORDS, "there are more than 192 wanted records") \
+    X(23, VJ_REFUSED_BUFFER_FULL, "a group has more entries than the buffer has places left") \
+    X(24, VJ_REFUSED_BUFFER_HOLDS, "the buffer holds a group where an append, a commit or a collection is begun")
+
+/* Their names, and VJ_ACCEPTED for no refusal. */
+#define VJ_REFUSAL_NAME(number, name, text) , name = number
+enum { VJ_ACCEPTED = 0 VJ_REFUSALS(VJ_REFUSAL_NAME) };
+#undef VJ_REFUSAL_NAME
+
+/* The text of a number: a literal, which the caller leaves as it is. */
+static inline const char *vj_refusal_text(uint8_t number)
+{
+    switch (number) {
+    case VJ_ACCEPTED:
+        return "accepted";
+#define VJ_REFUSAL_TEXT(number, name, text) \
+    case name: \
+        return text;
+        VJ_REFUSALS(VJ_REFUSAL_TEXT)
+#undef VJ_REFUSAL_TEXT
+    default:
+        return "no such number";
+    }
+}
+
+/* The most bytes of stack that each call takes on x86-64, whatever is lent to it, with what the caller puts there for its arguments and its
+ * answer: as a C program compiled by gcc 12 with -O2 was seen to take on media of 256 blocks, full ones of 45 shapes among them, at least 256
+ * bytes more, and rounded up to a multiple of 1024. tests/tests/stack.rs measures it anew, and fails where a call takes more than is said here,
+ * or over 2048 bytes less. VJ_STACK_MOST is enough for every call. */
+enum {
+    VJ_STACK_RECOVER = 91136,
+    VJ_STACK_LOG = 82944,
+    VJ_STACK_PAGE = 1024,
+    VJ_STACK_OPENING = 11264,
+    VJ_STACK_SETTINGS = 17408,
+    VJ_STACK_PICK = 11264,
+    VJ_STACK_SURVEY = 15360,
+    VJ_STACK_AVAILABLE = 9216,
+    VJ_STACK_WORD = 21504,
+    VJ_STACK_WANTED = 25600,
+    VJ_STACK_FORMAT = 5120,
+    VJ_STACK_APPEND = 37888,
+    VJ_STACK_COMMIT = 27648,
+    VJ_STACK_COLLECT = 31744,
+    VJ_STACK_FLUSH = 33792,
+    VJ_STACK_BUFFER = 30720,
+    VJ_STACK_STEP = 51200,
+    VJ_STACK_MOST = 91136
+};
+
+/* A list of at most VJ_MOST_VALVES numbers under keys, the number under keys[i] in vals[i]. In the index: a valve and the address of its entry,
+ * 24 x page + place. In a group: a key and a word; the key is the valve, or valve + VJ_REMOVAL. */
 typedef struct VjCells {
-    size_t count;       /* how many are in the list, from the first on */
-    uint16_t keys[192]; /* places from `count` on mean nothing */
-    uint64_t vals[192]; /* the same */
+    size_t count;                  /* how many are in the list, from the first on */
+    uint16_t keys[VJ_MOST_VALVES]; /* places from `count` on mean nothing */
+    uint64_t vals[VJ_MOST_VALVES]; /* the same */
 } VjCells;
 
 /* Where the journal writes next. */
@@ -85,9 +171,6 @@ enum {
     VJ_FLUSH = 5    /* a flush of the lent buffer; progress means nothing */
 };
 
-/* The length of a write buffer in bytes. */
-enum { VJ_BUFFER_LENGTH = 256 };
-
 /* What the journal keeps between calls. */
 typedef struct VjState {
     VjHead head;
@@ -106,10 +189,10 @@ typedef struct VjRecovered {
     VjState state;  /* the state, with nothing pending; on a refusal it means nothing */
 } VjRecovered;
 
-/* What vj_log answers. */
+/* What vj_log and vj_settings answer. */
 typedef struct VjCount {
     uint8_t number; /* 0, or the number of the refusal */
-    size_t count;   /* how many changes the log has; on a refusal it means nothing */
+    size_t count;   /* how many changes the log has, or how many valves are set; on a refusal it means nothing */
 } VjCount;
 
 /* A part of the medium. */
@@ -186,13 +269,16 @@ typedef struct VjStepped {
     VjState state;    /* the state after the step; on a refusal every field as given */
 } VjStepped;
 
-/* Recovers the state from the medium, which stays as it is. Refuses 1 to 6. */
+/* Recovers the state from the medium, which stays as it is: at the start, and after a cut, with the bytes that the chip then has. Refuses 1 to
+ * 6. */
 VjRecovered vj_recover(const uint8_t *medium, size_t medium_length);
 
 /* Reads the log into three lists: for each change in order the key and the word, as stored, and the number of its group, the first complete
- * group in the log being 0; a removal's key is 32768 + valve. Lists of 384 places for each block of the medium are long enough. Places past
- * the log stay as they were, and on a refusal all do. The three may have any lengths. Refuses 1 to 6, and 17 where any of them is too short. */
-VjCount vj_log(const uint8_t *medium, size_t medium_length, uint16_t *keys, size_t keys_length, uint64_t *words, size_t words_length, uint32_t *groups, size_t groups_length);
+ * group in the log being 0; a removal's key is valve + VJ_REMOVAL. Lists of VJ_BLOCK_ENTRIES places for each block of the medium are long
+ * enough. Places past the log stay as they were, and on a refusal all do. The three may have any lengths. Refuses 1 to 6, and 17 where any of
+ * them is too short. */
+VjCount vj_log(const uint8_t *medium, size_t medium_length, uint16_t *keys, size_t keys_length, uint64_t *words, size_t words_length,
+    uint32_t *groups, size_t groups_length);
 
 /* The part of the medium that is page p, counted from 0: 256 bytes from byte 256 x p on. Where the medium, of any length, lacks one of
  * these bytes, offset and length are 0. Never refuses. */
@@ -201,10 +287,17 @@ VjPart vj_page(const uint8_t *medium, size_t medium_length, size_t p);
 /* The calls from here on, vj_format aside, take a state with its medium. A state of any content may be given: one that does not fit the
  * medium, or whose operation names none, is refused with 7. */
 
-/* The next six calls read a state against its medium; both stay as they are. All but vj_word leave the write buffer aside. */
+/* The next seven calls read a state against its medium; both stay as they are. All but vj_word leave the write buffer aside. */
 
 /* The word of a valve on the medium. Refuses 1, 7, 18 and, where the valve's address lacks its entry, 6, in this order. */
 VjWord vj_opening(const uint8_t *medium, size_t medium_length, VjState state, uint16_t valve);
+
+/* All valves that are set, ascending, each with its word on the medium, into two lists: what vj_opening gives of each, in one call. `count` is
+ * how many valves are set. Lists of VJ_MOST_VALVES places are long enough, and the two may have any lengths. Places past the settings stay as
+ * they were, and on a refusal all do. Refuses 1, 7, 6 where the address of any valve that is set lacks its entry, and 17 where either list is
+ * too short, in this order. */
+VjCount vj_settings(const uint8_t *medium, size_t medium_length, VjState state, uint16_t *valves, size_t valves_length, uint64_t *words,
+    size_t words_length);
 
 /* The block to collect, if there is one. Refuses 1 and 7. */
 VjPick vj_pick(const uint8_t *medium, size_t medium_length, VjState state);
@@ -226,20 +319,25 @@ VjWordPlace vj_word(const uint8_t *medium, size_t medium_length, VjState state, 
  * no group with fewer entries does. It has no entry where nothing differs (vj_append refuses such a group with 10). Where more than 96 valves
  * differ there is none: the change takes more than one group. The records may be any, and as many as they are. Refuses 1, 7, 19, 20, 6 where the
  * address of any valve that is set lacks its entry, and 11 where valve 0 would have to be set, in this order. A valve 0 that an old medium has set
- * may be wanted with the word that it has, or not wanted, which removes it. */
+ * may be wanted with the word that it has, or not wanted, which removes it.
+ * Neither what is pending nor what the buffer holds is counted: finish the operation and flush the buffer first, ask then, and append the group
+ * before anything else changes a valve. */
 VjWanted vj_wanted(const uint8_t *medium, size_t medium_length, VjState state, const VjRecord *records, size_t records_length);
 
 /* The next five calls begin an operation. The medium stays as it is: vj_step does the work. */
 
-/* Begins formatting. It takes no state, so it drops whatever was pending. Refuses 1. */
+/* Begins formatting. It takes no state, so it drops whatever was pending. A cut inside it promises nothing: it is begun again. Refuses 1. */
 VjBegun vj_format(const uint8_t *medium, size_t medium_length);
 
-/* Begins an append of 1 to 96 entries, in two lists of one length: the key is the valve, or 32768 + valve for a removal, whose word is 0.
+/* Begins an append of 1 to 96 entries, in two lists of one length: the key is the valve, or valve + VJ_REMOVAL with the word 0.
  * The entries are kept in the state; the lists are not used again. 16 pages must stay available. Refuses 1, 7, 8, 24, 10, 11, 12, 13 and
  * 14, in this order. */
-VjBegun vj_append(const uint8_t *medium, size_t medium_length, VjState state, const uint8_t *buffer, size_t buffer_length, const uint16_t *keys, size_t keys_length, const uint64_t *words, size_t words_length);
+VjBegun vj_append(const uint8_t *medium, size_t medium_length, VjState state, const uint8_t *buffer, size_t buffer_length,
+    const uint16_t *keys, size_t keys_length, const uint64_t *words, size_t words_length);
 
-/* Begins a commit: a new base of the valves that are set. Refuses 1, 7, 8, 24, 13 and 14, in this order. */
+/* Begins a commit: a new base of the valves that are set. A finished commit empties the log, also of changes that nobody has read: vj_log comes
+ * first. Where vj_append or vj_buffer answers 13, pages come free by a commit, then vj_pick and vj_collect of the block that it names, more than
+ * once if need be. Refuses 1, 7, 8, 24, 13 and 14, in this order. */
 VjBegun vj_commit(const uint8_t *medium, size_t medium_length, VjState state, const uint8_t *buffer, size_t buffer_length);
 
 /* Begins the collection of a block, counted from 0: its live entries are moved, then it is erased. Refuses 1, 7, 8, 24, 15, 6 where a live
@@ -254,7 +352,8 @@ VjBegun vj_flush(const uint8_t *medium, size_t medium_length, VjState state, con
  * and is the one to give to the next call. Answers 0, or the number of the refusal, and then every byte of the buffer stays. 12 is counted
  * over the entries of the buffer, then those of the group; 13 and 14 are asked as its flush would meet them. Refuses 1, 7, 8, 10, 11, 12,
  * 23, 13 and 14, in this order. */
-uint8_t vj_buffer(const uint8_t *medium, size_t medium_length, VjState state, uint8_t *buffer, size_t buffer_length, const uint16_t *keys, size_t keys_length, const uint64_t *words, size_t words_length);
+uint8_t vj_buffer(const uint8_t *medium, size_t medium_length, VjState state, uint8_t *buffer, size_t buffer_length, const uint16_t *keys,
+    size_t keys_length, const uint64_t *words, size_t words_length);
 
 /* Makes one device step of the pending operation: it programs one clean page, or erases one block. No other byte of the medium changes,
  * and on a refusal none does. A flush programs the buffer as it is lent to the step that programs its page, and that step leaves the buffer
@@ -268,6 +367,41 @@ uint8_t vj_buffer(const uint8_t *medium, size_t medium_length, VjState state, ui
  * Refuses 1, 7, 9, 6 where an entry to move is not there, 14 for a page to program, and 16, in this order; a step that erases only 1, 7
  * and 9. */
 VjStepped vj_step(uint8_t *medium, size_t medium_length, VjState state, uint8_t *buffer, size_t buffer_length);
+
+/* The library's structs byte by byte: the size of each, and where each field begins and how many bytes it has. The build stops here where the
+ * compiler lays out one of them otherwise. */
+#if defined(__cplusplus) && __cplusplus >= 201103L
+#define VJ_ASSERT(name, condition) static_assert(condition, #name " is laid out otherwise in the library");
+#elif defined(__STDC_VERSION__) && __STDC_VERSION__ >= 201112L
+#define VJ_ASSERT(name, condition) _Static_assert(condition, #name " is laid out otherwise in the library");
+#else
+#define VJ_ASSERT(name, condition) typedef char name##_is_laid_out_otherwise_in_the_library[(condition) ? 1 : -1];
+#endif
+#define VJ_SIZE(type, bytes) VJ_ASSERT(type, sizeof(type) == bytes)
+#define VJ_FIELD(type, field, at, bytes) VJ_ASSERT(type##_##field, offsetof(type, field) == at && sizeof(((type *)0)->field) == bytes)
+VJ_SIZE(VjCells, 1928) VJ_FIELD(VjCells, count, 0, 8) VJ_FIELD(VjCells, keys, 8, 384) VJ_FIELD(VjCells, vals, 392, 1536)
+VJ_SIZE(VjHead, 40) VJ_FIELD(VjHead, blocks, 0, 8) VJ_FIELD(VjHead, block, 8, 8) VJ_FIELD(VjHead, next, 16, 8)
+    VJ_FIELD(VjHead, serial, 24, 8) VJ_FIELD(VjHead, base, 32, 8)
+VJ_SIZE(VjState, 4176) VJ_FIELD(VjState, head, 0, 40) VJ_FIELD(VjState, index, 40, 1928) VJ_FIELD(VjState, group, 1968, 1928)
+    VJ_FIELD(VjState, pages, 3896, 8) VJ_FIELD(VjState, operation, 3904, 1) VJ_FIELD(VjState, progress, 3912, 8)
+    VJ_FIELD(VjState, erased, 3920, 256)
+VJ_SIZE(VjRecovered, 4184) VJ_FIELD(VjRecovered, number, 0, 1) VJ_FIELD(VjRecovered, state, 8, 4176)
+VJ_SIZE(VjCount, 16) VJ_FIELD(VjCount, number, 0, 1) VJ_FIELD(VjCount, count, 8, 8)
+VJ_SIZE(VjPart, 16) VJ_FIELD(VjPart, offset, 0, 8) VJ_FIELD(VjPart, length, 8, 8)
+VJ_SIZE(VjWord, 16) VJ_FIELD(VjWord, number, 0, 1) VJ_FIELD(VjWord, word, 8, 8)
+VJ_SIZE(VjWordPlace, 24) VJ_FIELD(VjWordPlace, number, 0, 1) VJ_FIELD(VjWordPlace, in_buffer, 1, 1) VJ_FIELD(VjWordPlace, offset, 8, 8)
+    VJ_FIELD(VjWordPlace, length, 16, 8)
+VJ_SIZE(VjPick, 16) VJ_FIELD(VjPick, number, 0, 1) VJ_FIELD(VjPick, found, 1, 1) VJ_FIELD(VjPick, block, 8, 8)
+VJ_SIZE(VjSurvey, 1538) VJ_FIELD(VjSurvey, number, 0, 1) VJ_FIELD(VjSurvey, counts, 2, 1536)
+VJ_SIZE(VjPages, 16) VJ_FIELD(VjPages, number, 0, 1) VJ_FIELD(VjPages, pages, 8, 8)
+VJ_SIZE(VjRecord, 16) VJ_FIELD(VjRecord, valve, 0, 2) VJ_FIELD(VjRecord, word, 8, 8)
+VJ_SIZE(VjWanted, 1936) VJ_FIELD(VjWanted, number, 0, 1) VJ_FIELD(VjWanted, found, 1, 1) VJ_FIELD(VjWanted, group, 8, 1928)
+VJ_SIZE(VjBegun, 4184) VJ_FIELD(VjBegun, number, 0, 1) VJ_FIELD(VjBegun, state, 8, 4176)
+VJ_SIZE(VjStepped, 4192) VJ_FIELD(VjStepped, number, 0, 1) VJ_FIELD(VjStepped, touched, 1, 1) VJ_FIELD(VjStepped, finished, 2, 1)
+    VJ_FIELD(VjStepped, at, 8, 8) VJ_FIELD(VjStepped, state, 16, 4176)
+#undef VJ_FIELD
+#undef VJ_SIZE
+#undef VJ_ASSERT
 
 #ifdef __cplusplus
 }

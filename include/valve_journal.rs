@@ -1,23 +1,135 @@
-//! The valve journal for Rust programs: what `valve_journal.h` declares, field by field and call by call. That file says what each means.
+//! The valve journal for Rust programs, behind safe calls: what `valve_journal.h` declares, call by call. That file says what each call does and
+//! refuses, and what each field means. One file without dependencies, to be included as a module:
 //!
-//! Link with `target/staticlib/libjournal_c.a`, which `rt staticlib journal_c` writes.
+//! ```text
+//! #[path = "../include/valve_journal.rs"]
+//! mod valve_journal;
+//! ```
+//!
+//! Link with `target/staticlib/libjournal_c.a`, which `rt staticlib journal_c` writes for x86-64: `rustc -L target/staticlib`.
+//!
+//! Names: a call `vj_x` is `x` here, a constant `VJ_X` is `X`, a struct `VjX` that a caller keeps or fills in is `X`. A lent list is a slice. A
+//! refusal is the `Err` of a `Result`. A call that takes a state and hands one back puts it in the place of the one given; on a refusal it is the
+//! same. What a step touched is carried to the chip before the next call; where that fails, the medium is read from the chip again and recovered,
+//! as after a power cut.
 
-/// The most blocks that a medium has.
+use std::fmt;
+use std::mem::size_of;
+
+/// The versions of the interface and of the layout.
+pub const INTERFACE_VERSION: u32 = 1;
+pub const LAYOUT_VERSION: u32 = 2;
+
+// Sizes and limits, as the header explains them.
+pub const PAGE_BYTES: usize = 256;
+pub const BLOCK_PAGES: usize = 16;
+pub const BLOCK_BYTES: usize = 4096;
+pub const BUFFER_BYTES: usize = 256;
+pub const PAGE_ENTRIES: usize = 24;
+pub const BLOCK_ENTRIES: usize = 384;
+pub const BUFFER_ENTRIES: usize = 16;
+pub const RESERVE_PAGES: usize = 16;
+pub const LEAST_BLOCKS: usize = 4;
 pub const MOST_BLOCKS: usize = 256;
+pub const MOST_VALVES: usize = 192;
+pub const MOST_ENTRIES: usize = 96;
+pub const MOST_RECORDS: usize = 192;
+pub const LAST_VALVE: u16 = 32767;
+pub const REMOVAL: u16 = 32768;
 
-/// A list of at most 192 numbers under keys.
+/// An empty write buffer: as it is lent after formatting, after a cut and after a recovery.
+pub const EMPTY_BUFFER: [u8; BUFFER_BYTES] = [0xFF; BUFFER_BYTES];
+
+/// Makes the refusals of a list of number, name and text.
+macro_rules! refusals {
+    ($($number:literal $name:ident $text:literal,)*) => {
+        /// Why a call refused. `refusal as u8` is the number.
+        #[derive(Clone, Copy, PartialEq, Eq, PartialOrd, Ord, Hash, Debug)]
+        #[repr(u8)]
+        pub enum Refusal {
+            $(#[doc = $text] $name = $number,)*
+        }
+
+        impl Refusal {
+            /// Every refusal, by rising number.
+            pub const ALL: &'static [Refusal] = &[$(Refusal::$name,)*];
+
+            /// The text of the refusal, as `vj_refusal_text` has it.
+            pub fn text(self) -> &'static str {
+                match self {
+                    $(Refusal::$name => $text,)*
+                }
+            }
+
+            /// The refusal of a number that a call answered.
+            fn of(number: u8) -> Refusal {
+                match number {
+                    $($number => Refusal::$name,)*
+                    other => unreachable!("no call answers {other}"),
+                }
+            }
+        }
+    };
+}
+
+refusals! {
+    1 Length "the medium's length is not 4 to 256 times 4096 bytes",
+    2 PageRules "a whole page breaks the page rules",
+    3 SameSerial "two whole pages share a serial",
+    4 NoBase "no complete base",
+    5 Sequence "from the base on, a gap in the serials or a page out of its group",
+    6 Index "the base's valves do not rise, over 192 valves are set, or an address of the index lacks its entry",
+    7 State "the state does not fit the medium, or the buffer is not well formed or, while a flush is pending, holds nothing that can be flushed",
+    8 Pending "an operation is pending",
+    9 NonePending "no operation is pending",
+    10 Lists "the lists of a group differ in length, or have no entry, or over 96; or a flush of an empty buffer",
+    11 Entry "a removal's word is not 0, or valve 0 is set",
+    12 Valves "more than 192 valves would be set, those of the buffer counted",
+    13 Pages "too few pages are available",
+    14 Serials "too few serials are left: the next serial and the pages make more than 2^64 - 1",
+    15 Block "the block is not collectible, or there is no such block",
+    16 PageDue "the page due is not there, or is not clean",
+    17 ShortList "a lent list is too short",
+    18 NotSet "the valve is not set",
+    19 Record "the wanted valves do not rise strictly, or one is above 32767",
+    20 Records "there are more than 192 wanted records",
+    23 BufferFull "a group has more entries than the buffer has places left",
+    24 BufferHolds "the buffer holds a group where an append, a commit or a collection is begun",
+}
+
+impl fmt::Display for Refusal {
+    fn fmt(&self, f: &mut fmt::Formatter) -> fmt::Result {
+        write!(f, "refused {}: {}", *self as u8, self.text())
+    }
+}
+
+impl std::error::Error for Refusal {}
+
+/// A list of at most `MOST_VALVES` numbers under keys. In the index: a valve and the address of its entry. In a group: a key and a word.
 #[repr(C)]
 #[derive(Clone, Copy, PartialEq, Eq, Debug)]
-pub struct VjCells {
+pub struct Cells {
     pub count: usize,
-    pub keys: [u16; 192],
-    pub vals: [u64; 192],
+    pub keys: [u16; MOST_VALVES],
+    pub vals: [u64; MOST_VALVES],
+}
+
+impl Cells {
+    /// The keys in the list.
+    pub fn keys(&self) -> &[u16] {
+        &self.keys[..self.count.min(MOST_VALVES)]
+    }
+
+    /// The numbers under them.
+    pub fn vals(&self) -> &[u64] {
+        &self.vals[..self.count.min(MOST_VALVES)]
+    }
 }
 
 /// Where the journal writes next.
 #[repr(C)]
 #[derive(Clone, Copy, PartialEq, Eq, Debug)]
-pub struct VjHead {
+pub struct Head {
     pub blocks: usize,
     pub block: usize,
     pub next: usize,
@@ -28,17 +140,17 @@ pub struct VjHead {
 /// The state. Two are equal where every field is, those that mean nothing too.
 #[repr(C)]
 #[derive(Clone, Copy, PartialEq, Eq, Debug)]
-pub struct VjState {
-    pub head: VjHead,
-    pub index: VjCells,
-    pub group: VjCells,
+pub struct State {
+    pub head: Head,
+    pub index: Cells,
+    pub group: Cells,
     pub pages: [u16; 4],
     pub operation: u8,
     pub progress: u64,
     pub erased: [u8; MOST_BLOCKS],
 }
 
-/// The values of [`VjState::operation`]; any other names no operation.
+// The values of `State::operation`; any other names no operation.
 pub const IDLE: u8 = 0;
 pub const APPEND: u8 = 1;
 pub const COMMIT: u8 = 2;
@@ -46,134 +158,303 @@ pub const COLLECT: u8 = 3;
 pub const FORMAT: u8 = 4;
 pub const FLUSH: u8 = 5;
 
-/// The length of a write buffer in bytes.
-pub const BUFFER_LENGTH: usize = 256;
-
-/// The values of [`VjStepped::touched`].
-pub const PAGE: u8 = 1;
-pub const BLOCK: u8 = 2;
-
-/// What `vj_recover` answers: a refusal's number, or 0 and the state.
-#[repr(C)]
-#[derive(Clone, Copy)]
-pub struct VjRecovered {
-    pub number: u8,
-    pub state: VjState,
-}
-
-/// What `vj_log` answers: a refusal's number, or 0 and how many changes.
-#[repr(C)]
-#[derive(Clone, Copy)]
-pub struct VjCount {
-    pub number: u8,
-    pub count: usize,
-}
-
-/// A part of the medium.
-#[repr(C)]
-#[derive(Clone, Copy)]
-pub struct VjPart {
-    pub offset: usize,
-    pub length: usize,
-}
-
-/// What `vj_opening` answers.
-#[repr(C)]
-#[derive(Clone, Copy)]
-pub struct VjWord {
-    pub number: u8,
-    pub word: u64,
-}
-
-/// What `vj_word` answers: where the eight bytes of a valve's word stand.
-#[repr(C)]
-#[derive(Clone, Copy, PartialEq, Eq, Debug)]
-pub struct VjWordPlace {
-    pub number: u8,
-    pub in_buffer: u8,
-    pub offset: usize,
-    pub length: usize,
-}
-
-/// What `vj_pick` answers: `found` is 1 exactly where a block is picked.
-#[repr(C)]
-#[derive(Clone, Copy)]
-pub struct VjPick {
-    pub number: u8,
-    pub found: u8,
-    pub block: u64,
-}
-
-/// What `vj_survey` answers: whole, clean and spoilt pages, block after block.
-#[repr(C)]
-#[derive(Clone, Copy)]
-pub struct VjSurvey {
-    pub number: u8,
-    pub counts: [u16; 3 * MOST_BLOCKS],
-}
-
-/// What `vj_available` answers.
-#[repr(C)]
-#[derive(Clone, Copy)]
-pub struct VjPages {
-    pub number: u8,
-    pub pages: u64,
-}
-
 /// A valve and its word.
 #[repr(C)]
 #[derive(Clone, Copy, PartialEq, Eq, Debug)]
-pub struct VjRecord {
+pub struct Record {
     pub valve: u16,
     pub word: u64,
 }
 
-/// What `vj_wanted` answers: `found` is 1 exactly where at most 96 valves differ.
-#[repr(C)]
-#[derive(Clone, Copy)]
-pub struct VjWanted {
-    pub number: u8,
-    pub found: u8,
-    pub group: VjCells,
+/// The eight bytes of a valve's word, little-endian, as a part of what holds them.
+#[derive(Clone, Copy, PartialEq, Eq, Debug)]
+pub enum Word<'a> {
+    InBuffer(&'a [u8; 8]),
+    InMedium(&'a [u8; 8]),
 }
 
-/// What a call that begins an operation answers, with the state handed back.
-#[repr(C)]
-#[derive(Clone, Copy)]
-pub struct VjBegun {
-    pub number: u8,
-    pub state: VjState,
+impl Word<'_> {
+    /// The word itself.
+    pub fn value(self) -> u64 {
+        let (Word::InBuffer(bytes) | Word::InMedium(bytes)) = self;
+        u64::from_le_bytes(*bytes)
+    }
 }
 
-/// What `vj_step` answers, with the state handed back.
-#[repr(C)]
-#[derive(Clone, Copy)]
-pub struct VjStepped {
-    pub number: u8,
-    pub touched: u8,
-    pub finished: u8,
-    pub at: u64,
-    pub state: VjState,
+/// The pages of a block, counted by what they are.
+#[derive(Clone, Copy, PartialEq, Eq, Debug, Default)]
+pub struct Row {
+    pub whole: u16,
+    pub clean: u16,
+    pub spoilt: u16,
 }
 
-// Each pair of a pointer and a length is a lent list of that many elements.
+/// What a step touched: the number of a page that it programmed, or of a block that it erased.
+#[derive(Clone, Copy, PartialEq, Eq, Debug)]
+pub enum Touched {
+    Page(usize),
+    Block(usize),
+}
+
+impl Touched {
+    /// The bytes of the medium that it is.
+    pub fn bytes(self) -> std::ops::Range<usize> {
+        match self {
+            Touched::Page(page) => page * PAGE_BYTES..(page + 1) * PAGE_BYTES,
+            Touched::Block(block) => block * BLOCK_BYTES..(block + 1) * BLOCK_BYTES,
+        }
+    }
+}
+
+/// What a step did, and whether the operation is finished.
+#[derive(Clone, Copy, PartialEq, Eq, Debug)]
+pub struct Step {
+    pub touched: Touched,
+    pub finished: bool,
+}
+
+/// Recovers the state from the medium, whose bytes are the chip's: after a cut they are taken from it anew.
+pub fn recover(medium: &[u8]) -> Result<State, Refusal> {
+    let r = unsafe { vj_recover(medium.as_ptr(), medium.len()) };
+    answer(r.number, r.state)
+}
+
+/// Reads the log into three lists, keys, words and numbers of groups; hands back how many changes it has.
+pub fn log(medium: &[u8], keys: &mut [u16], words: &mut [u64], groups: &mut [u32]) -> Result<usize, Refusal> {
+    let (m, k, w, g) = (medium.as_ptr(), keys.as_mut_ptr(), words.as_mut_ptr(), groups.as_mut_ptr());
+    let (ml, kl, wl, gl) = (medium.len(), keys.len(), words.len(), groups.len());
+    let r = unsafe { vj_log(m, ml, k, kl, w, wl, g, gl) };
+    answer(r.number, r.count)
+}
+
+/// Page `p` as a part of the medium; empty where the medium lacks one of its bytes.
+pub fn page(medium: &[u8], p: usize) -> &[u8] {
+    let part = unsafe { vj_page(medium.as_ptr(), medium.len(), p) };
+    &medium[part.offset..part.offset + part.length]
+}
+
+/// The word of a valve on the medium.
+pub fn opening(medium: &[u8], state: &State, valve: u16) -> Result<u64, Refusal> {
+    let r = unsafe { vj_opening(medium.as_ptr(), medium.len(), *state, valve) };
+    answer(r.number, r.word)
+}
+
+/// All valves that are set, ascending, with their words on the medium, into two lists; hands back how many there are.
+pub fn settings(medium: &[u8], state: &State, valves: &mut [u16], words: &mut [u64]) -> Result<usize, Refusal> {
+    let (m, v, w) = (medium.as_ptr(), valves.as_mut_ptr(), words.as_mut_ptr());
+    let r = unsafe { vj_settings(m, medium.len(), *state, v, valves.len(), w, words.len()) };
+    answer(r.number, r.count)
+}
+
+/// The block to collect, if there is one.
+pub fn pick(medium: &[u8], state: &State) -> Result<Option<usize>, Refusal> {
+    let r = unsafe { vj_pick(medium.as_ptr(), medium.len(), *state) };
+    answer(r.number, (r.found == 1).then_some(r.block as usize))
+}
+
+/// The pages of each block; rows past the last block are 0.
+pub fn survey(medium: &[u8], state: &State) -> Result<[Row; MOST_BLOCKS], Refusal> {
+    let r = unsafe { vj_survey(medium.as_ptr(), medium.len(), *state) };
+    let mut rows = [Row::default(); MOST_BLOCKS];
+    for (row, counts) in rows.iter_mut().zip(r.counts.chunks_exact(3)) {
+        *row = Row { whole: counts[0], clean: counts[1], spoilt: counts[2] };
+    }
+    answer(r.number, rows)
+}
+
+/// The pages that can still be written.
+pub fn available(medium: &[u8], state: &State) -> Result<usize, Refusal> {
+    let r = unsafe { vj_available(medium.as_ptr(), medium.len(), *state) };
+    answer(r.number, r.pages as usize)
+}
+
+/// The word of a valve, in the buffer where an entry there names it, else on the medium.
+pub fn word<'a>(medium: &'a [u8], state: &State, buffer: &'a [u8], valve: u16) -> Result<Word<'a>, Refusal> {
+    let (m, b) = (medium.as_ptr(), buffer.as_ptr());
+    let r = unsafe { vj_word(m, medium.len(), *state, b, buffer.len(), valve) };
+    match (r.number, r.in_buffer, r.offset, r.length) {
+        (0, 1, offset, 8) => Ok(Word::InBuffer(buffer[offset..].first_chunk().expect("eight bytes"))),
+        (0, 0, offset, 8) => Ok(Word::InMedium(medium[offset..].first_chunk().expect("eight bytes"))),
+        (number, 0, 0, 0) => Err(Refusal::of(number)),
+        _ => unreachable!("eight bytes, or a refusal with an empty part"),
+    }
+}
+
+/// The group that leads from the present settings to the wanted ones; none where more than 96 valves differ. Neither what is pending nor what the
+/// buffer holds is counted: finish and flush first, ask then, and append before anything else changes a valve.
+pub fn wanted(medium: &[u8], state: &State, records: &[Record]) -> Result<Option<Cells>, Refusal> {
+    let r = unsafe { vj_wanted(medium.as_ptr(), medium.len(), *state, records.as_ptr(), records.len()) };
+    answer(r.number, (r.found == 1).then_some(r.group))
+}
+
+/// Begins formatting. It takes no state, so it drops whatever was pending. A cut inside it promises nothing: formatting is begun again.
+pub fn format(medium: &[u8]) -> Result<State, Refusal> {
+    let r = unsafe { vj_format(medium.as_ptr(), medium.len()) };
+    answer(r.number, r.state)
+}
+
+/// Begins an append of 1 to 96 entries.
+pub fn append(medium: &[u8], state: &mut State, buffer: &[u8], keys: &[u16], words: &[u64]) -> Result<(), Refusal> {
+    let (m, b, k, w) = (medium.as_ptr(), buffer.as_ptr(), keys.as_ptr(), words.as_ptr());
+    let (ml, bl, kl, wl) = (medium.len(), buffer.len(), keys.len(), words.len());
+    begun(unsafe { vj_append(m, ml, *state, b, bl, k, kl, w, wl) }, state)
+}
+
+/// Begins a commit. Finished, it empties the log: read that first.
+pub fn commit(medium: &[u8], state: &mut State, buffer: &[u8]) -> Result<(), Refusal> {
+    let (m, b) = (medium.as_ptr(), buffer.as_ptr());
+    begun(unsafe { vj_commit(m, medium.len(), *state, b, buffer.len()) }, state)
+}
+
+/// Begins the collection of a block.
+pub fn collect(medium: &[u8], state: &mut State, buffer: &[u8], block: usize) -> Result<(), Refusal> {
+    let (m, b) = (medium.as_ptr(), buffer.as_ptr());
+    begun(unsafe { vj_collect(m, medium.len(), *state, b, buffer.len(), block as u64) }, state)
+}
+
+/// Begins a flush of the groups in the buffer.
+pub fn flush(medium: &[u8], state: &mut State, buffer: &[u8]) -> Result<(), Refusal> {
+    let (m, b) = (medium.as_ptr(), buffer.as_ptr());
+    begun(unsafe { vj_flush(m, medium.len(), *state, b, buffer.len()) }, state)
+}
+
+/// Puts a group of 1 to 16 entries into the buffer.
+pub fn buffer(medium: &[u8], state: &State, buffer: &mut [u8], keys: &[u16], words: &[u64]) -> Result<(), Refusal> {
+    let (m, b, k, w) = (medium.as_ptr(), buffer.as_mut_ptr(), keys.as_ptr(), words.as_ptr());
+    let (ml, bl, kl, wl) = (medium.len(), buffer.len(), keys.len(), words.len());
+    answer(unsafe { vj_buffer(m, ml, *state, b, bl, k, kl, w, wl) }, ())
+}
+
+/// Makes one device step of the pending operation.
+pub fn step(medium: &mut [u8], state: &mut State, buffer: &mut [u8]) -> Result<Step, Refusal> {
+    let (m, b) = (medium.as_mut_ptr(), buffer.as_mut_ptr());
+    let r = unsafe { vj_step(m, medium.len(), *state, b, buffer.len()) };
+    *state = r.state;
+    answer(r.number, ())?;
+    let touched = match r.touched {
+        1 => Touched::Page(r.at as usize),
+        2 => Touched::Block(r.at as usize),
+        other => unreachable!("a step touches a page or a block, not {other}"),
+    };
+    Ok(Step { touched, finished: r.finished == 1 })
+}
+
+/// The answer of a number and a value.
+fn answer<T>(number: u8, value: T) -> Result<T, Refusal> {
+    if number == 0 {
+        Ok(value)
+    } else {
+        Err(Refusal::of(number))
+    }
+}
+
+/// The answer of a call that begins an operation.
+fn begun(r: VjBegun, state: &mut State) -> Result<(), Refusal> {
+    *state = r.state;
+    answer(r.number, ())
+}
+
+// The answers as the library hands them back.
+
+#[repr(C)]
+struct VjRecovered {
+    number: u8,
+    state: State,
+}
+
+#[repr(C)]
+struct VjCount {
+    number: u8,
+    count: usize,
+}
+
+#[repr(C)]
+struct VjPart {
+    offset: usize,
+    length: usize,
+}
+
+#[repr(C)]
+struct VjWord {
+    number: u8,
+    word: u64,
+}
+
+#[repr(C)]
+struct VjWordPlace {
+    number: u8,
+    in_buffer: u8,
+    offset: usize,
+    length: usize,
+}
+
+#[repr(C)]
+struct VjPick {
+    number: u8,
+    found: u8,
+    block: u64,
+}
+
+#[repr(C)]
+struct VjSurvey {
+    number: u8,
+    counts: [u16; 3 * MOST_BLOCKS],
+}
+
+#[repr(C)]
+struct VjPages {
+    number: u8,
+    pages: u64,
+}
+
+#[repr(C)]
+struct VjWanted {
+    number: u8,
+    found: u8,
+    group: Cells,
+}
+
+#[repr(C)]
+struct VjBegun {
+    number: u8,
+    state: State,
+}
+
+#[repr(C)]
+struct VjStepped {
+    number: u8,
+    touched: u8,
+    finished: u8,
+    at: u64,
+    state: State,
+}
+
+// The sizes that the header asserts.
+const _: () = assert!(size_of::<Cells>() == 1928 && size_of::<Head>() == 40 && size_of::<State>() == 4176 && size_of::<Record>() == 16);
+const _: () = assert!(size_of::<VjRecovered>() == 4184 && size_of::<VjCount>() == 16 && size_of::<VjPart>() == 16 && size_of::<VjWord>() == 16);
+const _: () = assert!(size_of::<VjWordPlace>() == 24 && size_of::<VjPick>() == 16 && size_of::<VjSurvey>() == 1538 && size_of::<VjPages>() == 16);
+const _: () = assert!(size_of::<VjWanted>() == 1936 && size_of::<VjBegun>() == 4184 && size_of::<VjStepped>() == 4192);
+
+// The library's calls. A pointer and the length after it are those of one slice, and what a call writes to is lent to it alone; then each call is
+// safe for every value of its arguments. The functions above keep to that.
 #[rustfmt::skip]
 #[link(name = "journal_c", kind = "static")]
 extern "C" {
-    pub fn vj_recover(medium: *const u8, medium_length: usize) -> VjRecovered;
-    pub fn vj_log(medium: *const u8, medium_length: usize, keys: *mut u16, keys_length: usize, words: *mut u64, words_length: usize, groups: *mut u32, groups_length: usize) -> VjCount;
-    pub fn vj_page(medium: *const u8, medium_length: usize, p: usize) -> VjPart;
-    pub fn vj_opening(medium: *const u8, medium_length: usize, state: VjState, valve: u16) -> VjWord;
-    pub fn vj_pick(medium: *const u8, medium_length: usize, state: VjState) -> VjPick;
-    pub fn vj_survey(medium: *const u8, medium_length: usize, state: VjState) -> VjSurvey;
-    pub fn vj_available(medium: *const u8, medium_length: usize, state: VjState) -> VjPages;
-    pub fn vj_wanted(medium: *const u8, medium_length: usize, state: VjState, records: *const VjRecord, records_length: usize) -> VjWanted;
-    pub fn vj_format(medium: *const u8, medium_length: usize) -> VjBegun;
-    pub fn vj_word(medium: *const u8, medium_length: usize, state: VjState, buffer: *const u8, buffer_length: usize, valve: u16) -> VjWordPlace;
-    pub fn vj_append(medium: *const u8, medium_length: usize, state: VjState, buffer: *const u8, buffer_length: usize, keys: *const u16, keys_length: usize, words: *const u64, words_length: usize) -> VjBegun;
-    pub fn vj_commit(medium: *const u8, medium_length: usize, state: VjState, buffer: *const u8, buffer_length: usize) -> VjBegun;
-    pub fn vj_collect(medium: *const u8, medium_length: usize, state: VjState, buffer: *const u8, buffer_length: usize, block: u64) -> VjBegun;
-    pub fn vj_flush(medium: *const u8, medium_length: usize, state: VjState, buffer: *const u8, buffer_length: usize) -> VjBegun;
-    pub fn vj_buffer(medium: *const u8, medium_length: usize, state: VjState, buffer: *mut u8, buffer_length: usize, keys: *const u16, keys_length: usize, words: *const u64, words_length: usize) -> u8;
-    pub fn vj_step(medium: *mut u8, medium_length: usize, state: VjState, buffer: *mut u8, buffer_length: usize) -> VjStepped;
+    fn vj_recover(m: *const u8, ml: usize) -> VjRecovered;
+    fn vj_log(m: *const u8, ml: usize, keys: *mut u16, kl: usize, words: *mut u64, wl: usize, groups: *mut u32, gl: usize) -> VjCount;
+    fn vj_page(m: *const u8, ml: usize, p: usize) -> VjPart;
+    fn vj_opening(m: *const u8, ml: usize, state: State, valve: u16) -> VjWord;
+    fn vj_settings(m: *const u8, ml: usize, state: State, valves: *mut u16, vl: usize, words: *mut u64, wl: usize) -> VjCount;
+    fn vj_pick(m: *const u8, ml: usize, state: State) -> VjPick;
+    fn vj_survey(m: *const u8, ml: usize, state: State) -> VjSurvey;
+    fn vj_available(m: *const u8, ml: usize, state: State) -> VjPages;
+    fn vj_word(m: *const u8, ml: usize, state: State, b: *const u8, bl: usize, valve: u16) -> VjWordPlace;
+    fn vj_wanted(m: *const u8, ml: usize, state: State, records: *const Record, rl: usize) -> VjWanted;
+    fn vj_format(m: *const u8, ml: usize) -> VjBegun;
+    fn vj_append(m: *const u8, ml: usize, state: State, b: *const u8, bl: usize, keys: *const u16, kl: usize, words: *const u64, wl: usize) -> VjBegun;
+    fn vj_commit(m: *const u8, ml: usize, state: State, b: *const u8, bl: usize) -> VjBegun;
+    fn vj_collect(m: *const u8, ml: usize, state: State, b: *const u8, bl: usize, block: u64) -> VjBegun;
+    fn vj_flush(m: *const u8, ml: usize, state: State, b: *const u8, bl: usize) -> VjBegun;
+    fn vj_buffer(m: *const u8, ml: usize, state: State, b: *mut u8, bl: usize, keys: *const u16, kl: usize, words: *const u64, wl: usize) -> u8;
+    fn vj_step(m: *mut u8, ml: usize, state: State, b: *mut u8, bl: usize) -> VjStepped;
 }

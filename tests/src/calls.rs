@@ -28,6 +28,7 @@ pub trait Calls {
     fn recover(m: &[u8]) -> Result<Self::State, Refused>;
     fn log_into(m: &[u8], k: &mut [u16], w: &mut [u64], g: &mut [u32]) -> Result<usize, Refused>;
     fn open(m: &[u8], state: &Self::State, valve: u16) -> Result<u64, Refused>;
+    fn settings_into(m: &[u8], state: &Self::State, v: &mut [u16], w: &mut [u64]) -> Result<usize, Refused>;
     fn word_at(m: &[u8], state: &Self::State, b: &[u8], valve: u16) -> Result<WordAt, Refused>;
     fn wanted(m: &[u8], state: &Self::State, records: &[Record]) -> Result<Option<Vec<Entry>>, Refused>;
     fn pick(m: &[u8], state: &Self::State) -> Result<Option<usize>, Refused>;
@@ -70,6 +71,9 @@ macro_rules! calls {
                 $reader::log_into(m, k, w, g)
             }
             fn open(m: &[u8], state: &$state, valve: u16) -> Result<u64, Refused> { $reader::open(m, state, valve) }
+            fn settings_into(m: &[u8], state: &$state, v: &mut [u16], w: &mut [u64]) -> Result<usize, Refused> {
+                $reader::settings_into(m, state, v, w)
+            }
             fn word_at(m: &[u8], state: &$state, b: &[u8], valve: u16) -> Result<WordAt, Refused> {
                 $reader::word_at(m, state, b, valve)
             }

@@ -8,8 +8,10 @@
 //! * [`grown`]: journals of many blocks, written for long.
 //! * [`random`]: media, cuts and damage made by chance, always the same ones
 //!   for the same seed.
-//! * [`proved`]: the first one, the proved library, behind safe calls.
+//! * [`valve_journal`]: the first one, the proved library, as users of Rust call
+//!   it; [`proved`]: the same in the second implementation's terms.
 //! * [`calls`]: the calls of either under one name.
+//! * [`run`]: whole operations from C, over a chip whose driver can fail.
 //! * [`stack`]: how much stack a call takes.
 
 #![deny(unsafe_code)]
@@ -18,14 +20,14 @@ pub mod before;
 pub mod calls;
 pub mod grown;
 pub mod history;
-#[allow(unsafe_code)]
 pub mod proved;
 pub mod random;
 pub mod reader;
 #[allow(unsafe_code)]
+pub mod run;
+#[allow(unsafe_code)]
 pub mod stack;
-/// The proved library's declarations for Rust programs.
 #[allow(unsafe_code)]
 #[path = "../../include/valve_journal.rs"]
-mod valve_journal;
+pub mod valve_journal;
 pub mod writer;

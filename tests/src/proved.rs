@@ -1,17 +1,18 @@
-//! The proved library behind safe calls, in the second implementation's
-//! terms.
+//! The proved library in the second implementation's terms: the calls that
+//! users of Rust make, in `include/valve_journal.rs`.
 //!
 //! A call that takes a state takes it as a [`VjState`], each field as the
 //! library has it. A call that hands one back puts it in the place of the one
 //! given, on a refusal too, so that a caller can see whether it is the same.
 
-pub use crate::valve_journal::*;
-
-use crate::reader::{
-    Entry, Pending, Place, Record, Refused, State, WordAt, MAX_BLOCKS, MAX_VALVES,
+pub use crate::valve_journal::{
+    page, Cells as VjCells, Head as VjHead, State as VjState, APPEND, COLLECT, COMMIT, FLUSH,
+    FORMAT, IDLE,
 };
-use crate::writer::{Step, Touched};
-use std::mem::offset_of;
+
+use crate::reader::{Entry, Pending, Place, Record, Refused, State, WordAt, MAX_BLOCKS};
+use crate::valve_journal::{self, Refusal, Touched, Word};
+use crate::writer;
 
 // ---------------------------------------------------------------------------
 // States: the library's and the second implementation's
@@ -105,22 +106,17 @@ impl VjState {
 }
 
 // ---------------------------------------------------------------------------
-// The calls. In each, a pointer and a length are those of one slice, and what
-// the library writes to is lent to it alone.
+// The calls
 
-/// The answer of a number and a value.
-fn answer<T>(number: u8, value: T) -> Result<T, Refused> {
-    if number == 0 {
-        Ok(value)
-    } else {
-        Err(Refused(number))
+impl From<Refusal> for Refused {
+    fn from(refusal: Refusal) -> Refused {
+        Refused(refusal as u8)
     }
 }
 
 /// Recovery.
 pub fn recover(medium: &[u8]) -> Result<VjState, Refused> {
-    let r = unsafe { vj_recover(medium.as_ptr(), medium.len()) };
-    answer(r.number, r.state)
+    Ok(valve_journal::recover(medium)?)
 }
 
 /// The log into three lent lists: keys, words and numbers of groups; its length
@@ -131,41 +127,37 @@ pub fn log_into(
     words: &mut [u64],
     groups: &mut [u32],
 ) -> Result<usize, Refused> {
-    let (m, k, w, g) =
-        (medium.as_ptr(), keys.as_mut_ptr(), words.as_mut_ptr(), groups.as_mut_ptr());
-    let (ml, kl, wl, gl) = (medium.len(), keys.len(), words.len(), groups.len());
-    let r = unsafe { vj_log(m, ml, k, kl, w, wl, g, gl) };
-    answer(r.number, r.count)
-}
-
-/// Page `p` as a part of the medium; empty where the medium lacks it.
-pub fn page(medium: &[u8], p: usize) -> &[u8] {
-    let part = unsafe { vj_page(medium.as_ptr(), medium.len(), p) };
-    &medium[part.offset..part.offset + part.length]
+    Ok(valve_journal::log(medium, keys, words, groups)?)
 }
 
 /// Opening of a valve: its word.
 pub fn open(medium: &[u8], state: &VjState, valve: u16) -> Result<u64, Refused> {
-    let r = unsafe { vj_opening(medium.as_ptr(), medium.len(), *state, valve) };
-    answer(r.number, r.word)
+    Ok(valve_journal::opening(medium, state, valve)?)
 }
 
-/// The place of a valve's word: eight bytes, or an empty part with a refusal.
+/// All valves set with their words into two lent lists; their number is handed
+/// back.
+pub fn settings_into(
+    medium: &[u8],
+    state: &VjState,
+    valves: &mut [u16],
+    words: &mut [u64],
+) -> Result<usize, Refused> {
+    Ok(valve_journal::settings(medium, state, valves, words)?)
+}
+
+/// The place of a valve's word.
 pub fn word_at(
     medium: &[u8],
     state: &VjState,
     buffer: &[u8],
     valve: u16,
 ) -> Result<WordAt, Refused> {
-    let (m, b) = (medium.as_ptr(), buffer.as_ptr());
-    let r = unsafe { vj_word(m, medium.len(), *state, b, buffer.len(), valve) };
-    let place = match (r.number, r.in_buffer, r.offset, r.length) {
-        (0, 1, offset, 8) => WordAt::Buffer(offset),
-        (0, 0, offset, 8) => WordAt::Medium(offset),
-        (1.., 0, 0, 0) => WordAt::Medium(0),
-        _ => panic!("{r:?} is neither eight bytes nor a refusal with an empty part"),
-    };
-    answer(r.number, place)
+    let offset = |part: &[u8], whole: &[u8]| part.as_ptr() as usize - whole.as_ptr() as usize;
+    Ok(match valve_journal::word(medium, state, buffer, valve)? {
+        Word::InBuffer(part) => WordAt::Buffer(offset(part, buffer)),
+        Word::InMedium(part) => WordAt::Medium(offset(part, medium)),
+    })
 }
 
 /// The group for wanted openings, if there is one.
@@ -174,39 +166,30 @@ pub fn wanted(
     state: &VjState,
     records: &[Record],
 ) -> Result<Option<Vec<Entry>>, Refused> {
-    let (m, records, length) = (medium.as_ptr(), records.as_ptr().cast(), records.len());
-    let r = unsafe { vj_wanted(m, medium.len(), *state, records, length) };
-    let entries = || r.group.used().expect("a group").map(|(key, word)| Entry { key, word });
-    let group = (r.number == 0 && r.found == 1).then(|| entries().collect());
-    answer(r.number, group)
+    let group = valve_journal::wanted(medium, state, records)?;
+    let entry = |(key, word)| Entry { key, word };
+    Ok(group.map(|cells| cells.used().expect("a group").map(entry).collect()))
 }
 
 /// The picker.
 pub fn pick(medium: &[u8], state: &VjState) -> Result<Option<usize>, Refused> {
-    let r = unsafe { vj_pick(medium.as_ptr(), medium.len(), *state) };
-    answer(r.number, (r.found == 1).then_some(r.block as usize))
+    Ok(valve_journal::pick(medium, state)?)
 }
 
 /// The survey.
 pub fn survey(medium: &[u8], state: &VjState) -> Result<[[u32; 3]; MAX_BLOCKS], Refused> {
-    let r = unsafe { vj_survey(medium.as_ptr(), medium.len(), *state) };
-    let mut rows = [[0; 3]; MAX_BLOCKS];
-    for (row, counts) in rows.iter_mut().zip(r.counts.chunks_exact(3)) {
-        *row = [counts[0], counts[1], counts[2]].map(u32::from);
-    }
-    answer(r.number, rows)
+    let rows = valve_journal::survey(medium, state)?;
+    Ok(rows.map(|row| [row.whole, row.clean, row.spoilt].map(u32::from)))
 }
 
 /// Available pages.
 pub fn count_available(medium: &[u8], state: &VjState) -> Result<usize, Refused> {
-    let r = unsafe { vj_available(medium.as_ptr(), medium.len(), *state) };
-    answer(r.number, r.pages as usize)
+    Ok(valve_journal::available(medium, state)?)
 }
 
 /// Begins formatting.
 pub fn format(medium: &[u8]) -> Result<VjState, Refused> {
-    let r = unsafe { vj_format(medium.as_ptr(), medium.len()) };
-    answer(r.number, r.state)
+    Ok(valve_journal::format(medium)?)
 }
 
 /// Begins an append.
@@ -217,15 +200,12 @@ pub fn append(
     keys: &[u16],
     words: &[u64],
 ) -> Result<(), Refused> {
-    let (m, b, k, w) = (medium.as_ptr(), buffer.as_ptr(), keys.as_ptr(), words.as_ptr());
-    let (ml, bl, kl, wl) = (medium.len(), buffer.len(), keys.len(), words.len());
-    begun(unsafe { vj_append(m, ml, *state, b, bl, k, kl, w, wl) }, state)
+    Ok(valve_journal::append(medium, state, buffer, keys, words)?)
 }
 
 /// Begins a commit.
 pub fn commit(medium: &[u8], state: &mut VjState, buffer: &[u8]) -> Result<(), Refused> {
-    let (m, b) = (medium.as_ptr(), buffer.as_ptr());
-    begun(unsafe { vj_commit(m, medium.len(), *state, b, buffer.len()) }, state)
+    Ok(valve_journal::commit(medium, state, buffer)?)
 }
 
 /// Begins a collection of a named block.
@@ -235,8 +215,7 @@ pub fn collect(
     buffer: &[u8],
     block: usize,
 ) -> Result<(), Refused> {
-    let (m, b) = (medium.as_ptr(), buffer.as_ptr());
-    begun(unsafe { vj_collect(m, medium.len(), *state, b, buffer.len(), block as u64) }, state)
+    Ok(valve_journal::collect(medium, state, buffer, block)?)
 }
 
 /// Puts a group into the lent buffer.
@@ -247,39 +226,24 @@ pub fn buffer(
     keys: &[u16],
     words: &[u64],
 ) -> Result<(), Refused> {
-    let (m, b, k, w) = (medium.as_ptr(), buffer.as_mut_ptr(), keys.as_ptr(), words.as_ptr());
-    let (ml, bl, kl, wl) = (medium.len(), buffer.len(), keys.len(), words.len());
-    answer(unsafe { vj_buffer(m, ml, *state, b, bl, k, kl, w, wl) }, ())
+    Ok(valve_journal::buffer(medium, state, buffer, keys, words)?)
 }
 
 /// Begins a flush.
 pub fn flush(medium: &[u8], state: &mut VjState, buffer: &[u8]) -> Result<(), Refused> {
-    let (m, b) = (medium.as_ptr(), buffer.as_ptr());
-    begun(unsafe { vj_flush(m, medium.len(), *state, b, buffer.len()) }, state)
-}
-
-/// The answer of a call that begins an operation.
-fn begun(r: VjBegun, state: &mut VjState) -> Result<(), Refused> {
-    *state = r.state;
-    answer(r.number, ())
+    Ok(valve_journal::flush(medium, state, buffer)?)
 }
 
 /// One device step of the pending operation.
-pub fn step(medium: &mut [u8], state: &mut VjState, buffer: &mut [u8]) -> Result<Step, Refused> {
-    let (m, b) = (medium.as_mut_ptr(), buffer.as_mut_ptr());
-    let r = unsafe { vj_step(m, medium.len(), *state, b, buffer.len()) };
-    *state = r.state;
-    answer(r.number, ())?;
-    let at = r.at as usize;
-    let touched = match r.touched {
-        1 => Touched::Page(at),
-        2 => Touched::Block(at),
-        other => panic!("a step touches a page or a block, not {other}"),
+pub fn step(
+    medium: &mut [u8],
+    state: &mut VjState,
+    buffer: &mut [u8],
+) -> Result<writer::Step, Refused> {
+    let step = valve_journal::step(medium, state, buffer)?;
+    let touched = match step.touched {
+        Touched::Page(page) => writer::Touched::Page(page),
+        Touched::Block(block) => writer::Touched::Block(block),
     };
-    Ok(Step { touched, finished: r.finished == 1 })
+    Ok(writer::Step { touched, finished: step.finished })
 }
-
-const _: () = assert!(MAX_VALVES == 192 && size_of::<VjState>() == 4176);
-const _: () = assert!(size_of::<Record>() == size_of::<VjRecord>());
-const _: () = assert!(offset_of!(Record, valve) == offset_of!(VjRecord, valve));
-const _: () = assert!(offset_of!(Record, word) == offset_of!(VjRecord, word));

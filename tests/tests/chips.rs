@@ -6,7 +6,6 @@ mod common;
 use common::{blank, finish, formatted, lists, refused, touched, valves};
 use journal_tests::calls::{Calls, EMPTY};
 use journal_tests::grown::{grown, shuffle_blocks, How, BLOCK_COUNTS};
-use journal_tests::proved::VjSurvey;
 use journal_tests::random::{self, Random};
 use journal_tests::reader::{
     self, Place, Refused, WordAt, BASE, BLOCK_ADDRESSES, BLOCK_BYTES, BLOCK_PAGES, MAX_BLOCKS,
@@ -258,7 +257,6 @@ fn surveys<C: Calls>() {
         let rows = C::survey(&medium, &C::of(&state)).expect("survey");
         assert_eq!(rows, expected);
     }
-    assert_eq!(size_of::<VjSurvey>(), 2 + 2 * 768, "three counts for each of 256 blocks");
 }
 
 /// As they were written and with their blocks in any order: recovery gives the

@@ -8,23 +8,10 @@ use journal_tests::before;
 use journal_tests::random::{self, Random};
 use journal_tests::reader::{self, Entry, REMOVAL};
 use std::collections::BTreeMap;
-use std::io::{ErrorKind, Write};
-use std::process::{Command, Stdio};
 
 /// What the proved program prints for a medium.
 fn printed(medium: &[u8]) -> String {
-    let program = concat!(env!("CARGO_MANIFEST_DIR"), "/../target/bin/morning");
-    let mut child = Command::new(program)
-        .stdin(Stdio::piped())
-        .stdout(Stdio::piped())
-        .spawn()
-        .expect("target/bin/morning, which `rt check morning` writes");
-    // The program may close its input once it has read enough.
-    if let Err(error) = child.stdin.take().expect("its input").write_all(medium) {
-        assert_eq!(error.kind(), ErrorKind::BrokenPipe);
-    }
-    let output = child.wait_with_output().expect("its output");
-    String::from_utf8(output.stdout).expect("text")
+    common::printed("morning", medium)
 }
 
 /// Both print the same; how often each line was printed is added up, the group

@@ -6,36 +6,16 @@ mod common;
 use common::{blank, lists, valves, EMPTY};
 use journal_tests::calls::{Calls, Proved, Second};
 use journal_tests::grown::{grown, shuffle_blocks, How};
-use journal_tests::proved::{self, VjRecord, VjState};
+use journal_tests::proved::{self, VjState};
 use journal_tests::random::Random;
-use journal_tests::reader::{self, Place, BASE, BLOCK_BYTES, BLOCK_PAGES, GATHERED, MOVED, NODES};
-use journal_tests::stack;
+use journal_tests::reader::{
+    self, Place, Record, BASE, BLOCK_BYTES, BLOCK_PAGES, GATHERED, MOVED, NODES,
+};
+use journal_tests::run::{self, Journal, FAILED};
+use journal_tests::stack::{self, Call, Lent};
 use journal_tests::writer::{self, lay_gathered, lay_page, put_page, State};
 use std::collections::BTreeMap;
-use std::hint::black_box;
 use std::io::Write;
-
-/// The most bytes of stack that each call may take, with what the caller puts
-/// there for its arguments and its answer: what was measured, rounded up to whole
-/// 4 KiB. The header says these numbers.
-const LIMITS: [(&str, usize); 16] = [
-    ("vj_recover", 98304),
-    ("vj_log", 90112),
-    ("vj_page", 1024),
-    ("vj_opening", 12288),
-    ("vj_word", 24576),
-    ("vj_wanted", 28672),
-    ("vj_pick", 12288),
-    ("vj_survey", 16384),
-    ("vj_available", 12288),
-    ("vj_format", 8192),
-    ("vj_append", 40960),
-    ("vj_commit", 28672),
-    ("vj_collect", 32768),
-    ("vj_flush", 36864),
-    ("vj_buffer", 32768),
-    ("vj_step", 53248),
-];
 
 /// The most that recovery of any medium may take.
 const RECOVERY: usize = 256 * 1024;
@@ -44,73 +24,85 @@ const RECOVERY: usize = 256 * 1024;
 #[derive(Default)]
 struct Table(BTreeMap<&'static str, usize>);
 
-/// Notes the stack that a call takes, with its arguments and its answer.
-macro_rules! note {
-    ($table:expr, $call:ident($($argument:expr),*)) => {{
-        let mut call = || {
-            // Each pointer and length are those of one slice that lives on.
-            let answer = unsafe { proved::$call($($argument),*) };
-            black_box(&answer);
-        };
-        $table.note(stringify!($call), stack::taken(&mut call));
-    }};
+/// What is lent to the calls, to be altered for each.
+struct Desk {
+    medium: Vec<u8>,
+    state: VjState,
+    buffer: [u8; 256],
+    keys: Vec<u16>,
+    words: Vec<u64>,
+    records: Vec<Record>,
+}
+
+impl Desk {
+    /// A medium with its state, an empty buffer, and lists of so many entries.
+    fn new(medium: &[u8], state: &VjState, entries: u16) -> Desk {
+        let (keys, words) = lists(&valves(1, entries));
+        let (medium, state) = (medium.to_vec(), *state);
+        Desk { medium, state, buffer: EMPTY, keys, words, records: Vec::new() }
+    }
 }
 
 impl Table {
-    fn note(&mut self, name: &'static str, bytes: usize) {
+    /// Makes a call with copies of what is on the desk.
+    fn note(&mut self, name: &'static str, desk: &Desk, number: usize) {
+        let call = stack::calls().iter().find(|call| call.name() == name).expect("a call");
+        let taken = call.taken(&mut Lent {
+            medium: &mut desk.medium.clone(),
+            state: &desk.state,
+            buffer: &mut desk.buffer.clone(),
+            keys: &mut desk.keys.clone(),
+            words: &mut desk.words.clone(),
+            groups: &mut vec![0; desk.keys.len()],
+            records: &desk.records,
+            number,
+        });
         let deepest = self.0.entry(name).or_insert(0);
-        *deepest = bytes.max(*deepest);
+        *deepest = taken.max(*deepest);
     }
 
     /// Recovery and the log of a medium.
     fn recovery(&mut self, medium: &[u8]) {
-        let (m, most) = (Lent::of(medium), reader::most_changes(medium));
-        let (mut k, mut w, mut g) = (vec![0; most], vec![0; most], vec![0; most]);
-        let (k, w, g) = (Lent::of_mut(&mut k), Lent::of_mut(&mut w), Lent::of_mut(&mut g));
-        note!(self, vj_recover(m.at(), m.len));
-        note!(self, vj_log(m.at(), m.len, k.at(), k.len, w.at(), w.len, g.at(), g.len));
+        let mut desk = Desk::new(medium, &Proved::of(&State::at_format(256)), 0);
+        let most = reader::most_changes(medium);
+        (desk.keys, desk.words) = (vec![0; most], vec![0; most]);
+        self.note("vj_recover", &desk, 0);
+        self.note("vj_log", &desk, 0);
     }
 
     /// The readings of a state, and what can be begun with it.
     fn state(&mut self, medium: &[u8], state: &VjState, buffer: &[u8; 256]) {
-        let (keys, words) = lists(&valves(1, 96));
-        let (m, b, empty) = (Lent::of(medium), Lent::of(buffer), Lent::of(&EMPTY));
-        let (k, w) = (Lent::of(&keys), Lent::of(&words));
-        note!(self, vj_page(m.at(), m.len, 4095));
-        for valve in [state.index.keys[0], state.index.keys[191], 32767] {
-            note!(self, vj_opening(m.at(), m.len, *state, valve));
-            note!(self, vj_word(m.at(), m.len, *state, b.at(), b.len, valve));
+        let mut desk = Desk::new(medium, state, 96);
+        self.note("vj_page", &desk, 4095);
+        for name in ["vj_pick", "vj_survey", "vj_available", "vj_format", "vj_append", "vj_commit"]
+        {
+            self.note(name, &desk, 0);
+        }
+        for block in (0..256).step_by(15) {
+            self.note("vj_collect", &desk, block);
         }
         // Of 192 valves all but one differ, 96 do, and none does.
         for same in [1, 96, 192] {
-            let records = records(medium, state, same);
-            let r = Lent::of(&records);
-            note!(self, vj_wanted(m.at(), m.len, *state, r.at(), r.len));
+            desk.records = records(medium, state, same);
+            self.note("vj_wanted", &desk, 0);
         }
-        note!(self, vj_pick(m.at(), m.len, *state));
-        note!(self, vj_survey(m.at(), m.len, *state));
-        note!(self, vj_available(m.at(), m.len, *state));
-        note!(self, vj_format(m.at(), m.len));
-        let e = &empty;
-        note!(self, vj_append(m.at(), m.len, *state, e.at(), e.len, k.at(), k.len, w.at(), w.len));
-        note!(self, vj_commit(m.at(), m.len, *state, e.at(), e.len));
-        for block in (0..256).step_by(15) {
-            note!(self, vj_collect(m.at(), m.len, *state, e.at(), e.len, block));
+        self.note("vj_settings", &Desk::new(medium, state, 192), 0);
+        self.note("vj_buffer", &Desk::new(medium, state, 16), 0);
+        desk.buffer = *buffer;
+        self.note("vj_flush", &desk, 0);
+        for valve in [state.index.keys[0], state.index.keys[191], 32767] {
+            self.note("vj_opening", &desk, valve.into());
+            self.note("vj_word", &desk, valve.into());
         }
-        note!(self, vj_flush(m.at(), m.len, *state, b.at(), b.len));
-        let mut buffer = EMPTY;
-        let b = Lent::of_mut(&mut buffer);
-        note!(self, vj_buffer(m.at(), m.len, *state, b.at(), b.len, k.at(), 16, w.at(), 16));
     }
 
     /// The steps of what is pending, one after the other.
     fn steps(&mut self, medium: &[u8], state: &VjState, buffer: &[u8; 256]) {
-        let (mut medium, mut state, mut buffer) = (medium.to_vec(), *state, *buffer);
+        let mut desk = Desk::new(medium, state, 0);
+        desk.buffer = *buffer;
         for _ in 0..12 {
-            let (mut lent, mut lent_buffer) = (medium.clone(), buffer);
-            let (m, b) = (Lent::of_mut(&mut lent), Lent::of_mut(&mut lent_buffer));
-            note!(self, vj_step(m.at(), m.len, state, b.at(), b.len));
-            match proved::step(&mut medium, &mut state, &mut buffer) {
+            self.note("vj_step", &desk, 0);
+            match proved::step(&mut desk.medium, &mut desk.state, &mut desk.buffer) {
                 Ok(step) if !step.finished => {}
                 _ => return,
             }
@@ -120,37 +112,13 @@ impl Table {
 
 /// The settings of a state of 192 valves as records, so many as they are and the
 /// others with another word.
-fn records(medium: &[u8], state: &VjState, same: usize) -> Vec<VjRecord> {
+fn records(medium: &[u8], state: &VjState, same: usize) -> Vec<Record> {
     let record = |nth: usize| {
         let (valve, address) = (state.index.keys[nth], state.index.vals[nth]);
         let word = reader::node(medium, Place { valve, address }).expect("a node");
-        VjRecord { valve, word: if nth < same { word } else { !word } }
+        Record { valve, word: if nth < same { word } else { !word } }
     };
     (0..192).map(record).collect()
-}
-
-/// A slice as the library takes it, to be lent to another thread.
-struct Lent<T> {
-    at: *mut T,
-    len: usize,
-}
-
-// The thread that lends it waits for the other.
-unsafe impl<T: Send> Sync for Lent<T> {}
-
-impl<T> Lent<T> {
-    /// A slice that is only read.
-    fn of(slice: &[T]) -> Lent<T> {
-        Lent { at: slice.as_ptr().cast_mut(), len: slice.len() }
-    }
-
-    fn of_mut(slice: &mut [T]) -> Lent<T> {
-        Lent { at: slice.as_mut_ptr(), len: slice.len() }
-    }
-
-    fn at(&self) -> *mut T {
-        self.at
-    }
 }
 
 /// Kinds and flags of pages that are repeated up to the last page: groups of one
@@ -260,18 +228,53 @@ fn the_deepest_stack_of_each_call() {
     }
     assert_eq!(medium.len(), 256 * BLOCK_BYTES);
     print(&table);
-    for (name, limit) in LIMITS {
-        assert!(table.0[name] <= limit, "{name} takes {} bytes of stack", table.0[name]);
+    for call in stack::calls() {
+        check(call, table.0[call.name()]);
     }
-    assert_eq!(table.0.len(), LIMITS.len());
-    assert!(LIMITS[0].1 <= RECOVERY);
+    assert_eq!(table.0.len(), stack::calls().len());
+    assert!(table.0["vj_recover"] <= RECOVERY);
+}
+
+/// The header's number of a call is not less than it took, and not much more.
+fn check(call: &Call, taken: usize) {
+    let (name, most) = (call.name(), call.most());
+    assert!(taken <= most, "{name} takes {taken} bytes of stack, the header says {most}");
+    assert!(most <= taken + 2048, "{name} takes only {taken}, the header says {most}");
 }
 
 /// Writes the table where the tests' own output goes, also if they pass.
 fn print(table: &Table) {
-    let mut text = String::from("\nbytes of stack, the most that was seen and the limit\n");
-    for (name, limit) in LIMITS {
-        text += &format!("{name:14} {:7} {limit:7}\n", table.0[name]);
+    let mut text =
+        String::from("\nbytes of stack, the most that was seen and what the header says\n");
+    for call in stack::calls() {
+        text += &format!("{:14} {:7} {:7}\n", call.name(), table.0[call.name()], call.most());
     }
     std::io::stdout().write_all(text.as_bytes()).expect("standard output");
+}
+
+#[test]
+fn the_deepest_stack_of_whole_operations() {
+    let mut deepest = 0;
+    let mut note = |what: &mut (dyn FnMut() -> u8 + Send), expected: u8| {
+        let mut answer = FAILED;
+        deepest = deepest.max(stack::taken(&mut || answer = what()));
+        assert_eq!(answer, expected);
+    };
+    for medium in full_media() {
+        let mut journal = Journal::new(&medium);
+        let expected = common::recovery_number(&medium);
+        note(&mut || journal.open(), expected);
+    }
+    let (mut journal, (keys, words)) = (Journal::new(&crowded().0), lists(&valves(1, 96)));
+    note(&mut || journal.open(), 0);
+    let block = reader::pick(&journal.chip.bytes, &journal.state().meaning().expect("a state"));
+    let block = block.expect("a reading").expect("a block");
+    note(&mut || journal.collect(block), 0);
+    note(&mut || journal.append(&keys, &words), 0);
+    note(&mut || journal.buffer(&keys[..16], &words[..16]), 0);
+    note(&mut || journal.flush(), 0);
+    note(&mut || journal.commit(), 0);
+    note(&mut || journal.format(), 0);
+    let most = run::most_stack();
+    assert!(deepest <= most && most <= deepest + 16384, "{deepest} bytes, said are {most}");
 }

@@ -5,6 +5,24 @@ pub use journal_tests::calls::EMPTY;
 use journal_tests::random::{Action, Life, Outcome};
 use journal_tests::reader::*;
 use journal_tests::writer::{self, Pending, State, Step, Touched};
+use std::io::{ErrorKind, Write};
+use std::process::{Command, Stdio};
+
+/// What a proved program prints for a medium; `rt check` writes the program.
+pub fn printed(program: &str, medium: &[u8]) -> String {
+    let path = format!("{}/../target/bin/{program}", env!("CARGO_MANIFEST_DIR"));
+    let mut child = Command::new(path)
+        .stdin(Stdio::piped())
+        .stdout(Stdio::piped())
+        .spawn()
+        .expect("the program in target/bin, which `rt check` writes");
+    // The program may close its input once it has read enough.
+    if let Err(error) = child.stdin.take().expect("its input").write_all(medium) {
+        assert_eq!(error.kind(), ErrorKind::BrokenPipe);
+    }
+    let output = child.wait_with_output().expect("its output");
+    String::from_utf8(output.stdout).expect("text")
+}
 
 pub fn refused<T>(number: u8) -> Result<T, Refused> {
     Err(Refused(number))

@@ -1,0 +1,44 @@
+/* A chip of 4 blocks in memory, with the driver that the examples hand to valve_journal_run.h. A real one talks to the chip instead, and answers 0
+ * only once the chip holds what was asked. Prints each step. */
+#ifndef CHIP_H
+#define CHIP_H
+
+#include <stdio.h>
+#include "valve_journal_run.h"
+
+static uint8_t chip[4 * VJ_BLOCK_BYTES];
+static int chip_cut_in = -1; /* after so many more steps its power fails inside one, half done; never while this is below 0 */
+
+static int chip_fails(void)
+{
+    return chip_cut_in >= 0 && chip_cut_in-- == 0;
+}
+
+static int chip_read(void *user, uint8_t *bytes, size_t length)
+{
+    (void)user;
+    memcpy(bytes, chip, length);
+    return 0;
+}
+
+static int chip_program(void *user, size_t page, const uint8_t *bytes)
+{
+    int failed = chip_fails();
+    (void)user;
+    memcpy(chip + VJ_PAGE_BYTES * page, bytes, failed ? VJ_PAGE_BYTES / 2 : VJ_PAGE_BYTES);
+    printf("program page %zu%s\n", page, failed ? ": failed" : "");
+    return failed;
+}
+
+static int chip_erase(void *user, size_t block)
+{
+    int failed = chip_fails();
+    (void)user;
+    memset(chip + VJ_BLOCK_BYTES * block, 0xFF, failed ? VJ_BLOCK_BYTES / 2 : VJ_BLOCK_BYTES);
+    printf("erase block %zu%s\n", block, failed ? ": failed" : "");
+    return failed;
+}
+
+static const VjDriver chip_driver = {chip_read, chip_program, chip_erase, NULL};
+
+#endif
