@@ -5,20 +5,10 @@
  *   cc -std=c99 -Wall -Wextra -I include examples/buffer.c target/staticlib/libjournal_c.a -o target/buffer_c
  */
 #include <inttypes.h>
-#include <stdlib.h>
 #include "chip.h"
 
 static uint8_t medium[sizeof chip];
 static VjJournal journal;
-
-/* Ends the program where a call refuses or fails. */
-static void expect(const char *call, uint8_t number)
-{
-    if (number != VJ_ACCEPTED) {
-        printf("%s: %u, %s\n", call, (unsigned)number, vj_run_text(number));
-        exit(1);
-    }
-}
 
 /* One move, a group of its own. A full buffer is flushed first. */
 static void move(uint16_t valve, uint64_t word)

@@ -6,8 +6,9 @@
 #[allow(dead_code)]
 #[path = "../include/valve_journal.rs"]
 mod valve_journal;
+mod steps;
 
-use valve_journal::{Refusal, State, Touched, Word, BLOCK_BYTES, BUFFER_BYTES, EMPTY_BUFFER};
+use valve_journal::{Refusal, State, Word, BLOCK_BYTES, BUFFER_BYTES, EMPTY_BUFFER};
 
 // A medium, the state of its journal and the write buffer beside it.
 struct Journal {
@@ -25,18 +26,9 @@ impl Journal {
         Ok(journal)
     }
 
-    // Steps until the pending operation is finished. A driver carries each step to the chip before the next.
+    // The steps of an operation.
     fn finish(&mut self) -> Result<(), Refusal> {
-        loop {
-            let step = valve_journal::step(&mut self.medium, &mut self.state, &mut self.buffer)?;
-            match step.touched {
-                Touched::Page(page) => println!("program page {page}"),
-                Touched::Block(block) => println!("erase block {block}"),
-            }
-            if step.finished {
-                return Ok(());
-            }
-        }
+        steps::finish(&mut self.medium, &mut self.state, &mut self.buffer)
     }
 
     fn flush(&mut self) -> Result<(), Refusal> {

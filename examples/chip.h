@@ -1,9 +1,10 @@
-/* A chip of 4 blocks in memory, with the driver that the examples hand to valve_journal_run.h. A real one talks to the chip instead, and answers 0
- * only once the chip holds what was asked. Prints each step. */
+/* What the C examples share. A chip of 4 blocks in memory, with the driver that they hand to valve_journal_run.h: a real one talks to the chip instead,
+ * and answers 0 only once the chip holds what was asked. It prints each step. And `expect`, which ends an example. */
 #ifndef CHIP_H
 #define CHIP_H
 
 #include <stdio.h>
+#include <stdlib.h>
 #include "valve_journal_run.h"
 
 static uint8_t chip[4 * VJ_BLOCK_BYTES];
@@ -40,5 +41,14 @@ static int chip_erase(void *user, size_t block)
 }
 
 static const VjDriver chip_driver = {chip_read, chip_program, chip_erase, NULL};
+
+/* Ends the program where a call refuses or fails. */
+static inline void expect(const char *call, uint8_t number)
+{
+    if (number != VJ_ACCEPTED) {
+        printf("%s: %u, %s\n", call, (unsigned)number, vj_run_text(number));
+        exit(1);
+    }
+}
 
 #endif

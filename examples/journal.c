@@ -5,7 +5,6 @@
  *   cc -std=c99 -Wall -Wextra -I include examples/journal.c target/staticlib/libjournal_c.a -o target/journal_c
  */
 #include <inttypes.h>
-#include <stdlib.h>
 #include "chip.h"
 
 static uint8_t medium[sizeof chip];
@@ -16,15 +15,6 @@ static uint64_t words[CHANGES];
 static uint32_t groups[CHANGES];
 static uint16_t valves[VJ_MOST_VALVES];
 static uint64_t openings[VJ_MOST_VALVES];
-
-/* Ends the program where a call refuses or fails. */
-static void expect(const char *call, uint8_t number)
-{
-    if (number != VJ_ACCEPTED) {
-        printf("%s: %u, %s\n", call, (unsigned)number, vj_run_text(number));
-        exit(1);
-    }
-}
 
 /* Opens the journal and prints the log and the settings. */
 static void morning(void)

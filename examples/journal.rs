@@ -6,22 +6,13 @@
 #[allow(dead_code)]
 #[path = "../include/valve_journal.rs"]
 mod valve_journal;
+mod steps;
 
 use valve_journal::*;
 
-// Steps until the pending operation is finished. A driver carries each step to the chip before the next. The write buffer stays empty here:
-// examples/buffer.rs uses it.
+// The steps of an operation. The write buffer stays empty here: examples/buffer.rs uses it.
 fn finish(medium: &mut [u8], state: &mut State) -> Result<(), Refusal> {
-    loop {
-        let step = step(medium, state, &mut { EMPTY_BUFFER })?;
-        match step.touched {
-            Touched::Page(page) => println!("program page {page}"),
-            Touched::Block(block) => println!("erase block {block}"),
-        }
-        if step.finished {
-            return Ok(());
-        }
-    }
+    steps::finish(medium, state, &mut { EMPTY_BUFFER })
 }
 
 // The state recovered, after the log and the settings are printed.

@@ -5,20 +5,10 @@
  *   cc -std=c99 -Wall -Wextra -I include examples/wanted.c target/staticlib/libjournal_c.a -o target/wanted_c
  */
 #include <inttypes.h>
-#include <stdlib.h>
 #include "chip.h"
 
 static uint8_t medium[sizeof chip];
 static VjJournal journal;
-
-/* Ends the program where a call refuses or fails. */
-static void expect(const char *call, uint8_t number)
-{
-    if (number != VJ_ACCEPTED) {
-        printf("%s: %u, %s\n", call, (unsigned)number, vj_run_text(number));
-        exit(1);
-    }
-}
 
 /* The group that leads to the wanted openings, where at most 96 valves differ, is printed and appended. What is pending or in the buffer is not
  * counted: whoever buffers moves flushes them first, and nothing else changes a valve between asking and appending. */

@@ -7,22 +7,13 @@
 #[allow(dead_code)]
 #[path = "../include/valve_journal.rs"]
 mod valve_journal;
+mod steps;
 
 use valve_journal::*;
 
-// Steps until the pending operation is finished. A driver carries each step to the chip before the next. The write buffer stays empty here:
-// examples/buffer.rs uses it.
+// The steps of an operation. The write buffer stays empty here: examples/buffer.rs uses it.
 fn finish(medium: &mut [u8], state: &mut State) -> Result<(), Refusal> {
-    loop {
-        let step = step(medium, state, &mut { EMPTY_BUFFER })?;
-        match step.touched {
-            Touched::Page(page) => println!("program page {page}"),
-            Touched::Block(block) => println!("erase block {block}"),
-        }
-        if step.finished {
-            return Ok(());
-        }
-    }
+    steps::finish(medium, state, &mut { EMPTY_BUFFER })
 }
 
 // The group that leads to the wanted openings, where at most 96 valves differ, is printed and appended. What is pending or in the buffer is not
