@@ -383,7 +383,7 @@ fn word<'a>(m: &'a [u8], s: State, b: &'a [u8], valve: u16) {
     part(b"valve ", valve as u64);
     let w = word::word(m, s, b, valve);
     if w.len() < 8 {
-        show::answer(b": ", word::word_number(m, s, b, valve));
+        show::answer(b": ", word::word_refusal(m, s, b, valve));
         return;
     }
     line(b": ", codec::le64(w, 0));

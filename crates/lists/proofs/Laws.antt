@@ -11,7 +11,7 @@ use lib.Dec.{leb}
 use lib.ListN.{length, getD, take, drop, replicate, length-append, length-take, length-replicate, getD-replicate, drop-of-length-le, List·getD-append, List·getD-eq-default}
 use lib.Seq.{drop-cons, ext-getD, getD-drop, getD-take, getD-append-add, getD-append-seam}
 use Rattle.lists.specs.declared.Cell.{Cell}
-use Rattle.lists.specs.Needs.{Need, need, checked, numberOf}
+use Rattle.lists.specs.Needs.{Need, need, checked, refusalOf}
 use Rattle.lists.specs.Lists.{keep, all, every, allBelow, oneIf, countBelow, table, first, Below}
 use Rattle.lists.specs.Cells.{cell, pairs, keysOf, wordsOf}
 
@@ -147,16 +147,16 @@ checked-join refused (c ∷ cs) ds a = by-cases (c .holds) (λ e. rw e (checked-
 
 -- the number of the first that does not hold: r is what the code's test of the first condition gave
 module _ (r b : Bool) (n : ℕ) (cs : List Need) (e : r ≡ b) where
-  pub number-stop : not r ≡ true → n ≡ numberOf (need n b ∷ cs)
-  unfolding numberOf checked
+  pub number-stop : not r ≡ true → n ≡ refusalOf (need n b ∷ cs)
+  unfolding refusalOf checked
   number-stop h = rw (← e, not-true r h)
 
-  pub number-pass : (x : ℕ) → not r ≡ false → x ≡ numberOf cs → x ≡ numberOf (need n b ∷ cs)
-  unfolding numberOf checked
+  pub number-pass : (x : ℕ) → not r ≡ false → x ≡ refusalOf cs → x ≡ refusalOf (need n b ∷ cs)
+  unfolding refusalOf checked
   number-pass x h q = rw (← e, not-false r h) q
 
-pub number-none : 0 ≡ numberOf []
-unfolding numberOf checked
+pub number-none : 0 ≡ refusalOf []
+unfolding refusalOf checked
 number-none = refl
 
 pub ruleset chain = (number-stop, number-pass, number-none)
@@ -167,8 +167,8 @@ numbered [] = true
 numbered (c ∷ cs) = leb 1 (c .number) && numbered cs
 
 -- without a number all conditions hold
-pub number-clear : (cs : List Need) → numbered cs ≡ true → numberOf cs ≡ 0 → every (tests cs) ≡ true
-unfolding numbered numberOf checked tests every
+pub number-clear : (cs : List Need) → numbered cs ≡ true → refusalOf cs ≡ 0 → every (tests cs) ≡ true
+unfolding numbered refusalOf checked tests every
 number-clear [] z e = refl
 number-clear (c ∷ cs) z e =
     by-cases (c .holds)
@@ -176,18 +176,18 @@ number-clear (c ∷ cs) z e =
     (λ h. let k = leb-true 1 (c .number) (and-l (leb 1 (c .number)) (numbered cs) z) in let y : c .number ≡ 0 = rw h at e in absurd (omega arith))
 
 -- some conditions refuse with their number
-pub number-refuses : {A : Type 0} (refused : ℕ → A) (cs : List Need) (a : A) (g : ℕ) → g ≡ numberOf cs → (g ≡ 0 → ⊥) → refused g ≡ checked refused cs a
-unfolding numberOf checked
+pub number-refuses : {A : Type 0} (refused : ℕ → A) (cs : List Need) (a : A) (g : ℕ) → g ≡ refusalOf cs → (g ≡ 0 → ⊥) → refused g ≡ checked refused cs a
+unfolding refusalOf checked
 number-refuses refused [] a g e h = absurd (h e)
 number-refuses refused (c ∷ cs) a g e h =
     by-cases (c .holds) (λ q. rw q (number-refuses refused cs a g (rw q at e) h)) (λ q. let y : g ≡ c .number = rw q at e in rw (q, y))
 
 -- and whatever follows them
-pub checked-stop : {A : Type 0} (refused : ℕ → A) (cs ds : List Need) (a : A) (g : ℕ) → g ≡ numberOf cs → (g ≡ 0 → ⊥) → refused g ≡ checked refused (cs ++ ds) a
+pub checked-stop : {A : Type 0} (refused : ℕ → A) (cs ds : List Need) (a : A) (g : ℕ) → g ≡ refusalOf cs → (g ≡ 0 → ⊥) → refused g ≡ checked refused (cs ++ ds) a
 checked-stop refused cs ds a g e h = number-refuses refused cs (checked refused ds a) g e h ∙ sym (checked-join refused cs ds a)
 
 -- some conditions that hold, and those that follow them
-pub checked-on : {A : Type 0} (refused : ℕ → A) (cs ds : List Need) (a : A) (g : ℕ) → numbered cs ≡ true → g ≡ numberOf cs → g ≡ 0 → checked refused (cs ++ ds) a ≡ checked refused ds a
+pub checked-on : {A : Type 0} (refused : ℕ → A) (cs ds : List Need) (a : A) (g : ℕ) → numbered cs ≡ true → g ≡ refusalOf cs → g ≡ 0 → checked refused (cs ++ ds) a ≡ checked refused ds a
 checked-on refused cs ds a g z e h = checked-join refused cs ds a ∙ checked-pass refused cs (checked refused ds a) (number-clear cs z (sym e ∙ h))
 
 -- the condition at place i of some that all hold

@@ -1,3 +1,4 @@
 pub mod Lists
 pub mod Needs
 pub mod Cells
+pub mod Found

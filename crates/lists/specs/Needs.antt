@@ -1,7 +1,22 @@
--- Conditions in order, each with its number: the first that does not hold refuses.
+-- What a call answers, and its conditions in order, each with its number: the first that does not hold refuses.
 use mathlib.Core.Bool.{Bool, cond}
 use mathlib.Core.List.{List, [], _∷_}
 use Prim.Native.Nat.{ℕ}
+use lib.Dec.{eqb}
+
+-- "A refusal gives its number alone": refused with a number, or what the call gives
+pub data Answer (A : Type 0) : Type 0 where
+  refused : ℕ → Answer A
+  gives : A → Answer A
+
+-- what the code's answer says that has a number and a value beside it: the number is a refusal's, or 0 and the value is given
+unfoldable pub answered : {A : Type 0} → ℕ → A → Answer A
+answered n x = cond (eqb n 0) (gives x) (refused n)
+
+-- a further answer, made of what an earlier one gives; where that is refused, with the same number
+unfoldable pub andThen : {A B : Type 0} → Answer A → (A → Answer B) → Answer B
+andThen (refused n) f = refused n
+andThen (gives x) f = f x
 
 -- a call is refused with this number unless the condition holds
 pub record Need : Type 0 where
@@ -13,9 +28,9 @@ need n b = record { number = n; holds = b }
 
 -- the answer, or the refusal with the number of the first condition that does not hold
 unfoldable pub checked : {A : Type 0} → (ℕ → A) → List Need → A → A
-checked refused [] answer = answer
-checked refused (c ∷ cs) answer = cond (c .holds) (checked refused cs answer) (refused (c .number))
+checked refuse [] answer = answer
+checked refuse (c ∷ cs) answer = cond (c .holds) (checked refuse cs answer) (refuse (c .number))
 
 -- the number of the first condition that does not hold, 0 where all do
-unfoldable pub numberOf : List Need → ℕ
-numberOf cs = checked (λ n. n) cs 0
+unfoldable pub refusalOf : List Need → ℕ
+refusalOf cs = checked (λ n. n) cs 0

@@ -15,3 +15,9 @@ pub struct Cells {
     pub keys: [u16; 192],
     pub vals: [u64; 192],
 }
+
+// A number that was sought, or that there is none.
+pub enum Found {
+    At(u64),
+    Missing,
+}

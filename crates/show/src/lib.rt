@@ -2,9 +2,9 @@
 ghost use mathlib.Core.Path.{_≡_};
 ghost use Prim.Native.Nat.{_≤_};
 ghost use lib.ListN.{length};
-use index::Found;
 use lists::Cell;
 use lists::Cells;
+use lists::Found;
 
 // Text as it is.
 pub fn text(s: &[u8]) {

@@ -10,7 +10,7 @@ use lib.ListN.{length, replicate, length-append, length-replicate, getD-replicat
 use borrow.Author.Tests.{leb-true, le-leb, ltb-true, lt-ltb, eqb-true}
 use Rattle.lists.specs.declared.Cell.{Cell}
 use Rattle.lists.specs.Lists.{all, every, isSome, valueOr}
-use Rattle.lists.specs.Needs.{Need, need, numberOf, checked}
+use Rattle.lists.specs.Needs.{Need, need, refusalOf, checked}
 use Rattle.lists.specs.Cells.{cell, Place}
 use Rattle.lists.proofs.Laws.{by-cases, true-false, every-at, all-head, all-tail, tests, checked-cases}
 use Rattle.page.specs.Pages.{View, clean, spoilt, whole, isClean, pagesFor, changesOf}
@@ -23,7 +23,7 @@ use Rattle.nodes.specs.Nodes.{wordAt, sound, words, live, pickBelow}
 use Rattle.state.specs.State.{Pending, append, commit, collect, flush, Held, groupOk, basePages, pendingFit, fit, fitWith, bufferedIn, stateNeeds}
 use Rattle.recovery.specs.Recovery.{Placed, wholes, sort, lastOf, noPage, Recovery}
 use Rattle.recovery.specs.Recovery
-use Rattle.readings.specs.Readings.{Opening, placeOf, openingNeeds, openingOf, lastNaming, setsAt, soughtIn, sought, wordNumber, Pick, pickedBlock, pickOf, Survey, surveyOf, Supply, availableOf}
+use Rattle.readings.specs.Readings.{Opening, placeOf, openingNeeds, openingOf, lastNaming, setsAt, soughtIn, sought, wordRefusal, Pick, pickedBlock, pickOf, Survey, surveyOf, Supply, availableOf}
 use Rattle.readings.specs.Readings.{Answer, SettingsRead, longEnough, filedSettings, readSettings}
 use Rattle.calls.specs.Calls.{Call, starting, zip, listsOk, roomFor, appendNeeds, appendOf, commitNeeds, commitOf, collectNeeds, collectOf, Buffering, flushNeeds, flushOf, bufferNeeds, bufferOf}
 use Rattle.step.specs.Step.{Step, stepOf, mediumAfter}
@@ -378,11 +378,11 @@ module _ (m : List ℕ) (s : Held) (bs : List ℕ) (h : History) (U : Upheld (wo
       unset : isSome (lookup valve (s .index)) ≡ false → Told-fairly (checked Opening.turnedBack (openingNeeds (length m) v s valve) (Opening.word (valueOr 0 (wordAt v (placeOf s valve)))))
       unset e = unfold checked in rw (U .size, fits, e) (back 18 (unfold expected every in refl))
 
-  word-answers : (valve : ℕ) → expected (wordNumber m v s bs valve) ≡ true
-  unfolding wordNumber sought soughtIn numberOf checked expected every
+  word-answers : (valve : ℕ) → expected (wordRefusal m v s bs valve) ≡ true
+  unfolding wordRefusal sought soughtIn refusalOf checked expected every
   word-answers valve = go (lastNaming valve 0 (changesOf (bufferedIn bs)))
     where
-      go : (o : Option ℕ) → expected (numberOf (need 1 (sizeOk (length m)) ∷ need 7 (fitWith v s bs) ∷ soughtIn m v s bs valve o .needs)) ≡ true
+      go : (o : Option ℕ) → expected (refusalOf (need 1 (sizeOk (length m)) ∷ need 7 (fitWith v s bs) ∷ soughtIn m v s bs valve o .needs)) ≡ true
       go (some i) = by-cases (setsAt (changesOf (bufferedIn bs)) i) (λ e. rw (U .size, fits-with, e)) (λ e. rw (U .size, fits-with, e))
       go none =
           by-cases (isSome (lookup valve (s .index))) (λ e. rw (U .size, fits-with, e, has-word valve e)) (λ e. rw (U .size, fits-with, e))

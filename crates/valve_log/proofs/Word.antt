@@ -11,7 +11,7 @@ use lib.Seq.{getD-append-seam}
 use borrow.Author.Tests.{ltb-true, leb-true, eqb-true, eqb-false, eq-eqb, ne-eqb, lt-ltb, le-ltb, le-leb}
 use Rattle.lists.specs.declared.Cell.{Cell}
 use Rattle.lists.specs.Lists.{table, isSome, valueOr, Bytes}
-use Rattle.lists.specs.Needs.{need, numberOf, checked}
+use Rattle.lists.specs.Needs.{need, refusalOf, checked}
 use Rattle.lists.specs.Cells.{cell, Entry, Place}
 use Rattle.lists.proofs.Laws.{by-cases, and-l, and-r, true-false, below-tail, get-table, length-table}
 use Rattle.codec.specs.Codec.{le, bytesOf, part}
@@ -27,7 +27,7 @@ use Rattle.index.proofs.Rising.{assign-rising}
 use Rattle.nodes.specs.Nodes.{setsValves, entryIn, nodeIn, wordFor, wordAt, words}
 use Rattle.nodes.proofs.Alive.{rising-words}
 use Rattle.state.specs.State.{Held, fitWith}
-use Rattle.readings.specs.Readings.{placeOf, names, lastNaming, setsAt, soughtIn, sought, wordPart, wordNumber}
+use Rattle.readings.specs.Readings.{placeOf, names, lastNaming, setsAt, soughtIn, sought, wordPart, wordRefusal}
 use Rattle.valve_log.specs.History.{History, assignGroups}
 use Rattle.valve_log.specs.Reached.{world}
 use Rattle.valve_log.specs.Word.{Holds, Tells, WordTold}
@@ -251,8 +251,8 @@ module _ (m : List ℕ) (s : Held) (bs : List ℕ) (h : History) (U : Upheld (wo
   stored = rw (L .holds) (stored-holding (h .buffered) (omega (arith, L .fits-in .few)))
 
   -- with 1 and 7 met
-  number-is : (o : Option ℕ) → lastNaming valve 0 es ≡ o → wordNumber m v s bs valve ≡ numberOf (soughtIn m v s bs valve o .needs)
-  unfolding wordNumber numberOf checked sought
+  number-is : (o : Option ℕ) → lastNaming valve 0 es ≡ o → wordRefusal m v s bs valve ≡ refusalOf (soughtIn m v s bs valve o .needs)
+  unfolding wordRefusal refusalOf checked sought
   number-is o e = rw (U .size, fits-all, lent-groups L, e)
 
   part-is : (o : Option ℕ) → lastNaming valve 0 es ≡ o → wordPart m v s bs valve ≡ checked (λ n. []) (soughtIn m v s bs valve o .needs) (soughtIn m v s bs valve o .part)
@@ -269,8 +269,8 @@ module _ (m : List ℕ) (s : Held) (bs : List ℕ) (h : History) (U : Upheld (wo
 
   -- in the buffer
   in-buffer : (j : ℕ) → lookup valve (assignAll (h .settings) es) ≡ told (getD es j (cell 0 0)) → j < length es
-      → Answer (numberOf (soughtIn m v s bs valve (some j) .needs)) (checked (λ n. []) (soughtIn m v s bs valve (some j) .needs) (soughtIn m v s bs valve (some j) .part))
-  unfolding soughtIn numberOf checked setsAt
+      → Answer (refusalOf (soughtIn m v s bs valve (some j) .needs)) (checked (λ n. []) (soughtIn m v s bs valve (some j) .needs) (soughtIn m v s bs valve (some j) .part))
+  unfolding soughtIn refusalOf checked setsAt
   in-buffer j e k =
       rw (lent-groups L) (by-cases (ltb (getD es j (cell 0 0) .key) 32768)
       (λ q. rw q ((λ z. record { word = getD es j (cell 0 0) .val; set = e ∙ rw q; bytes = stored .word j k }), λ z. absurd (z refl)))
@@ -306,8 +306,8 @@ module _ (m : List ℕ) (s : Held) (bs : List ℕ) (h : History) (U : Upheld (wo
   medium-word a q = word-bytes m (placeOf s valve) (valueOr 0 (wordAt v (placeOf s valve))) (U .guarded .bytes) (there (wordAt v (placeOf s valve)) (word-there a q))
 
   in-medium : lookup valve (assignAll (h .settings) es) ≡ lookup valve (h .settings)
-      → Answer (numberOf (soughtIn m v s bs valve none .needs)) (checked (λ n. []) (soughtIn m v s bs valve none .needs) (soughtIn m v s bs valve none .part))
-  unfolding soughtIn numberOf checked
+      → Answer (refusalOf (soughtIn m v s bs valve none .needs)) (checked (λ n. []) (soughtIn m v s bs valve none .needs) (soughtIn m v s bs valve none .part))
+  unfolding soughtIn refusalOf checked
   in-medium e = go (lookup valve (s .index)) refl
     where
       go : (o : Option ℕ) → lookup valve (s .index) ≡ o

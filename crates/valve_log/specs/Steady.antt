@@ -11,7 +11,7 @@ use Rattle.lists.specs.Lists.{every}
 use Rattle.flash.specs.Medium.{views}
 use Rattle.state.specs.State.{Held}
 use Rattle.recovery.specs.Recovery.{Recovery, recover as recoverOf}
-use Rattle.readings.specs.Readings.{Opening, openingOf, wordNumber, Pick, pickOf, Survey, surveyOf, Supply, availableOf, Answer, readLog, readSettings}
+use Rattle.readings.specs.Readings.{Opening, openingOf, wordRefusal, Pick, pickOf, Survey, surveyOf, Supply, availableOf, Answer, readLog, readSettings}
 use Rattle.calls.specs.Calls.{Call, Buffering, appendOf, commitOf, collectOf, bufferOf, flushOf, formatOf}
 use Rattle.step.specs.Step.{Step, stepOf}
 use Rattle.valve_log.specs.History.{History}
@@ -31,7 +31,7 @@ pub record Answers (m : List ℕ) (s : Held) (b : List ℕ) : Type 0 where
   pub flush : (n : ℕ) → flushOf (length m) (views m) s b ≡ Call.refused n → expected n ≡ true
   pub step : (n : ℕ) → stepOf (length m) (views m) s b ≡ Step.refused n → expected n ≡ true
   pub opening : (valve n : ℕ) → openingOf (length m) (views m) s valve ≡ Opening.turnedBack n → expected n ≡ true
-  pub word : (valve : ℕ) → expected (wordNumber m (views m) s b valve) ≡ true
+  pub word : (valve : ℕ) → expected (wordRefusal m (views m) s b valve) ≡ true
   pub settings : (valves ws : List ℕ) (n : ℕ) → readSettings (length m) (views m) s valves ws .answer ≡ Answer.turnedBack n → expected n ≡ true
   pub pick : (n : ℕ) → pickOf (length m) (views m) s ≡ Pick.turnedBack n → ⊥
   pub survey : (n : ℕ) → surveyOf (length m) (views m) s ≡ Survey.turnedBack n → ⊥

@@ -10,7 +10,7 @@ use borrow.Author.Tests.{le-leb, lt-leb, leb-true, not-true, not-false}
 use Rattle.lists.specs.declared.Cell.{Cell}
 use Rattle.lists.specs.declared.Cells.{Cells}
 use Rattle.lists.specs.Lists.{all, every}
-use Rattle.lists.specs.Needs.{checked, numberOf}
+use Rattle.lists.specs.Needs.{checked, refusalOf}
 use Rattle.lists.specs.Cells.{listed}
 use Rattle.lists.proofs.Laws.{all-weaken, every-at, number-refuses, number-clear, numbered, tests, checked-pass}
 use Rattle.page.specs.Pages.{View}
@@ -42,17 +42,17 @@ refused-is k g e = ap (λ (t : List Cell). record { number = k; found = false; e
 -- ---- 19 and 20
 
 module _ (n : Notes) where
-  pub record-19 : not (n .rises) ≡ true → 19 ≡ numberOf (recordNeeds n)
-  unfolding numberOf checked
+  pub record-19 : not (n .rises) ≡ true → 19 ≡ refusalOf (recordNeeds n)
+  unfolding refusalOf checked
   record-19 h = rw (not-true (n .rises) h)
 
   module _ (h : not (n .rises) ≡ false) where
-    pub record-20 : 192 < n .count → 20 ≡ numberOf (recordNeeds n)
-    unfolding numberOf checked
+    pub record-20 : 192 < n .count → 20 ≡ refusalOf (recordNeeds n)
+    unfolding refusalOf checked
     record-20 l = rw (not-false (n .rises) h, lt-leb (n .count) 192 l)
 
-    pub record-0 : n .count ≤ 192 → 0 ≡ numberOf (recordNeeds n)
-    unfolding numberOf checked
+    pub record-0 : n .count ≤ 192 → 0 ≡ refusalOf (recordNeeds n)
+    unfolding refusalOf checked
     record-0 l = rw (not-false (n .rises) h, le-leb (n .count) 192 l)
 
 -- ---- 6, 11 and the group, from the present settings
@@ -122,7 +122,7 @@ pub all-valves : (blocks : ℕ) (l : List Cell) → indexFit blocks l ≡ true �
 unfolding indexFit placeFit isValve
 all-valves blocks l h = all-weaken (placeFit blocks) isValve (λ x k. every-at 0 _ k) l (every-at 2 _ h)
 
-module _ (m : List ℕ) (s : State) (n : Notes) (g : ℕ) (e : g ≡ numberOf (stateNeeds (length m) (views m) (meaning s))) where
+module _ (m : List ℕ) (s : State) (n : Notes) (g : ℕ) (e : g ≡ refusalOf (stateNeeds (length m) (views m) (meaning s))) where
   pub answer-state : (x : Told) → (g ≡ 0 → ⊥) → x ≡ told (turnedBack g) → x ≡ told (wantedBy (length m) (views m) (meaning s) n)
   unfolding wantedBy
   answer-state x h q = q ∙ ap told (number-refuses turnedBack (stateNeeds (length m) (views m) (meaning s)) _ g e h)
@@ -136,7 +136,7 @@ module _ (m : List ℕ) (s : State) (n : Notes) (g : ℕ) (e : g ≡ numberOf (s
     unfolding wantedBy checked
     on = let p = passed m s g e z in rw (p .size, p .fits)
 
-    module _ (k : ℕ) (f : k ≡ numberOf (recordNeeds n)) where
+    module _ (k : ℕ) (f : k ≡ refusalOf (recordNeeds n)) where
       pub answer-records : (x : Told) → (k ≡ 0 → ⊥) → x ≡ told (turnedBack k) → x ≡ told (wantedBy (length m) (views m) (meaning s) n)
       answer-records x h q = q ∙ ap told (number-refuses turnedBack (recordNeeds n) _ k f h ∙ sym on)
 

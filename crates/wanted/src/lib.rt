@@ -5,7 +5,7 @@ ghost use mathlib.Core.List.{[], _∷_};
 ghost use Prim.Native.Nat.{_≤_};
 ghost use lib.ListN.{length};
 ghost use Rattle.lists.specs.Lists.{all};
-ghost use Rattle.lists.specs.Needs.{numberOf};
+ghost use Rattle.lists.specs.Needs.{refusalOf};
 ghost use Rattle.lists.specs.Cells.{listed};
 ghost use Rattle.flash.specs.Medium.{views};
 ghost use Rattle.index.specs.Index.{rising};
@@ -40,8 +40,8 @@ fn refused(number: u8) -> WantedAnswer
 }
 
 // 19 or 20 where the records refuse, else 0.
-fn record_number(n: Notes) -> u8
-    ensures { λ r. ⌜ r ≡ numberOf (recordNeeds n) ⌝ }
+fn record_refusal(n: Notes) -> u8
+    ensures { λ r. ⌜ r ≡ refusalOf (recordNeeds n) ⌝ }
 {
     if !n.rises {
         return 19;
@@ -79,11 +79,11 @@ fn answer(m: &[u8], s: State, n: Notes) -> WantedAnswer
     requires { ⌜ Orderly n ⌝ }
     ensures { λ r. ⌜ saidBy r ≡ told (wantedBy (length (now (m .entry))) (views (now (m .entry))) (meaning s) n) ⌝ }
 {
-    let number = state::state_number(m, s);
+    let number = state::state_refusal(m, s);
     if number != 0 {
         return refused(number);
     }
-    let other = record_number(n);
+    let other = record_refusal(n);
     if other != 0 {
         return refused(other);
     }

@@ -11,9 +11,9 @@ use Rattle.lists.specs.declared.Cell.{Cell}
 use Rattle.lists.specs.Lists.{all}
 use Rattle.lists.proofs.Laws.{by-cases, true-false, all-head, all-tail, all-cons}
 use Rattle.index.specs.Index.{lookup, risingFrom, rising, assignAll, entryAllowed, entriesAllowed}
-use Rattle.index.specs.declared.Found.{Found}
-use Rattle.index.specs.declared.Found.the-variants.{At, Missing}
-use Rattle.index.specs.Search.{foundOf}
+use Rattle.lists.specs.declared.Found.{Found}
+use Rattle.lists.specs.declared.Found.the-variants.{At, Missing}
+use Rattle.lists.specs.Found.{foundOf}
 use Rattle.index.proofs.Rising.{rising-head, rising-tail, rising-cons}
 use Rattle.wanted_group.specs.Group.{isValve, same, removalsFor, settingsFor, groupFor}
 use Rattle.wanted_group.proofs.Lookup.{valve, word, lookup-none, lookup-here, lookup-before}

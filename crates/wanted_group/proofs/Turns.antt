@@ -15,9 +15,10 @@ use Rattle.lists.specs.Lists.{isSome, all}
 use Rattle.lists.specs.Cells.{cell, pairs, listed}
 use Rattle.lists.proofs.Laws.{pairs-none, pairs-cons, pairs-past, length-pairs, all-head, all-drop}
 use Rattle.index.specs.Index.{lookup}
-use Rattle.index.specs.declared.Found.{Found}
-use Rattle.index.specs.declared.Found.the-variants.{At, Missing}
-use Rattle.index.specs.Search.{foundOf, Kept}
+use Rattle.lists.specs.declared.Found.{Found}
+use Rattle.lists.specs.declared.Found.the-variants.{At, Missing}
+use Rattle.index.specs.Search.{Kept}
+use Rattle.lists.specs.Found.{foundOf}
 use Rattle.index.proofs.Pairs.{pairs-snoc}
 use Rattle.wanted_group.specs.Group.{isValve, same, removalsFor, settingsFor, groupFor}
 use Rattle.wanted_group.specs.declared.Limited.{Limited}

@@ -11,8 +11,8 @@ ghost use Rattle.index.specs.Search.{Kept};
 ghost use Rattle.index.specs.Lent.{Lent};
 ghost use Rattle.wanted_group.specs.Group.{isValve, same, removalsFor, settingsFor, groupFor};
 ghost use Rattle.wanted_group.specs.Limited.{limited, cutBy};
-use index::Found;
 use lists::Cells;
+use lists::Found;
 
 // Whether a valve is set among the first n settings of two lent arrays.
 fn is_set<'a>(keys: &'a [u16], vals: &'a [u64], n: usize, valve: u16) -> bool

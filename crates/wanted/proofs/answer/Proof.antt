@@ -5,14 +5,14 @@ use Rattle.wanted.proofs.answer.Statement.{statement}
 use Rattle.wanted.proofs.answer.Tie as tie
 use Rattle.wanted.proofs.answer.Reads as reads
 use Rattle.wanted.proofs.answer.Lts as lts
-use Rattle.state.proofs.state_number.Reads as state-number-reads
+use Rattle.state.proofs.state_refusal.Reads as state-refusal-reads
 use Rattle.wanted.proofs.from_index.Reads as from-index-reads
-use Rattle.wanted.proofs.record_number.Reads as record-number-reads
+use Rattle.wanted.proofs.record_refusal.Reads as record-refusal-reads
 use Rattle.wanted.proofs.refused.Reads as refused-reads
 
 -- src/lib.rt:80:9
-state-number-requires : tie.Need-state-number-requires
-state-number-requires c κs = search needs
+state-refusal-requires : tie.Need-state-refusal-requires
+state-refusal-requires c κs = search needs
 
 -- src/lib.rt:82:9
 refused-requires : tie.Need-refused-requires
@@ -23,8 +23,8 @@ returns : tie.Need-returns
 returns c = search answer-state
 
 -- src/lib.rt:84:9
-record-number-requires : tie.Need-record-number-requires
-record-number-requires c κs = search needs
+record-refusal-requires : tie.Need-record-refusal-requires
+record-refusal-requires c κs = search needs
 
 -- src/lib.rt:86:9
 refused-requires-2 : tie.Need-refused-requires-2
@@ -46,10 +46,10 @@ pub answer-spec : {M : Type 1} → statement M
 answer-spec =
     tie.close
     (tie.spec
-    state-number-requires
+    state-refusal-requires
     refused-requires
     returns
-    record-number-requires
+    record-refusal-requires
     refused-requires-2
     returns-2
     from-index-requires
