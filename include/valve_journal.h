@@ -124,8 +124,8 @@ static inline const char *vj_refusal_text(uint8_t number)
  * bytes more, and rounded up to a multiple of 1024. tests/tests/stack.rs measures it anew, and fails where a call takes more than is said here,
  * or over 2048 bytes less. VJ_STACK_MOST is enough for every call. */
 enum {
-    VJ_STACK_RECOVER = 91136,
-    VJ_STACK_LOG = 82944,
+    VJ_STACK_RECOVER = 87040,
+    VJ_STACK_LOG = 78848,
     VJ_STACK_PAGE = 1024,
     VJ_STACK_OPENING = 11264,
     VJ_STACK_SETTINGS = 17408,
@@ -141,7 +141,7 @@ enum {
     VJ_STACK_FLUSH = 33792,
     VJ_STACK_BUFFER = 30720,
     VJ_STACK_STEP = 51200,
-    VJ_STACK_MOST = 91136
+    VJ_STACK_MOST = 87040
 };
 
 /* A list of at most VJ_MOST_VALVES numbers under keys, the number under keys[i] in vals[i]. In the index: a valve and the address of its entry,

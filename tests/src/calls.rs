@@ -3,11 +3,15 @@
 
 use crate::proved::{self, VjState};
 use crate::reader::{self, Entry, Record, Refused, State, WordAt, MAX_BLOCKS, PAGE_BYTES};
-use crate::writer::{self, Step};
+use crate::writer::{self, Pending, Step};
 use std::fmt::Debug;
 
 /// An empty buffer.
 pub const EMPTY: [u8; PAGE_BYTES] = [0xFF; PAGE_BYTES];
+
+/// No operation takes more steps: formatting has one for each block and one for
+/// its page.
+const MOST_STEPS: usize = MAX_BLOCKS + 1;
 
 /// The proved library.
 pub struct Proved;
@@ -24,6 +28,8 @@ pub trait Calls {
     fn of(state: &State) -> Self::State;
     /// The state in the second implementation's terms.
     fn meaning(state: &Self::State) -> State;
+    /// Whether formatting is pending.
+    fn is_formatting(state: &Self::State) -> bool;
 
     fn recover(m: &[u8]) -> Result<Self::State, Refused>;
     fn log_into(m: &[u8], k: &mut [u16], w: &mut [u64], g: &mut [u32]) -> Result<usize, Refused>;
@@ -47,25 +53,30 @@ pub trait Calls {
     fn finish(m: &mut [u8], state: &mut Self::State, b: &mut [u8]) -> Vec<Step> {
         let mut steps = Vec::new();
         while steps.last().is_none_or(|step: &Step| !step.finished) {
+            assert!(steps.len() < MOST_STEPS, "no operation takes more steps");
             steps.push(Self::step(m, state, b).expect("a step"));
         }
         steps
     }
 
-    /// The same with an empty buffer.
+    /// The same with an empty buffer, which stays so.
     fn finish_unbuffered(m: &mut [u8], state: &mut Self::State) -> Vec<Step> {
-        Self::finish(m, state, &mut { EMPTY })
+        let mut buffer = EMPTY;
+        let steps = Self::finish(m, state, &mut buffer);
+        assert_eq!(buffer, EMPTY);
+        steps
     }
 }
 
 /// Takes the calls that read and those that write from these modules.
 macro_rules! calls {
-    ($name:ident, $state:ty, $of:expr, $meaning:expr, $reader:ident, $writer:ident) => {
+    ($name:ident, $state:ty, $of:expr, $meaning:expr, $formatting:expr, $reader:ident, $writer:ident) => {
         #[rustfmt::skip]
         impl Calls for $name {
             type State = $state;
             fn of(state: &State) -> $state { $of(state) }
             fn meaning(state: &$state) -> State { $meaning(state) }
+            fn is_formatting(state: &$state) -> bool { $formatting(state) }
             fn recover(m: &[u8]) -> Result<$state, Refused> { $reader::recover(m) }
             fn log_into(m: &[u8], k: &mut [u16], w: &mut [u64], g: &mut [u32]) -> Result<usize, Refused> {
                 $reader::log_into(m, k, w, g)
@@ -100,13 +111,59 @@ macro_rules! calls {
     };
 }
 
-calls!(Proved, VjState, VjState::from, meaning, proved, proved);
-calls!(Second, State, State::clone, State::clone, reader, writer);
+calls!(Proved, VjState, VjState::from, meaning, formats, proved, proved);
+calls!(Second, State, State::clone, State::clone, second_formats, reader, writer);
 
 /// What a state of the proved library means.
 fn meaning(state: &VjState) -> State {
     state.meaning().expect("a state that means something")
 }
+
+fn formats(state: &VjState) -> bool {
+    state.operation == proved::FORMAT
+}
+
+fn second_formats(state: &State) -> bool {
+    matches!(state.pending, Some(Pending::Format { .. }))
+}
+
+// ---------------------------------------------------------------------------
+// The log read-out
+
+/// The log read-out of one implementation.
+pub type LogInto = fn(&[u8], &mut [u16], &mut [u64], &mut [u32]) -> Result<usize, Refused>;
+
+/// What the log read-out answers, and the lists lent to it after that.
+pub type ReadOut = (Result<usize, Refused>, LogLists);
+
+/// Three lists to lend to the log read-out.
+#[derive(Clone, PartialEq, Eq, Debug)]
+pub struct LogLists {
+    pub keys: Vec<u16>,
+    pub words: Vec<u64>,
+    pub groups: Vec<u32>,
+}
+
+impl LogLists {
+    /// Lists of these lengths, filled with what hardly stands in a log.
+    pub fn new([keys, words, groups]: [usize; 3]) -> LogLists {
+        LogLists {
+            keys: vec![0xA5A5; keys],
+            words: vec![0xA5A5_A5A5_A5A5_A5A5; words],
+            groups: vec![0xA5A5_A5A5; groups],
+        }
+    }
+}
+
+/// The log of a medium read into lists of these lengths.
+pub fn read_out(log_into: LogInto, medium: &[u8], lengths: [usize; 3]) -> ReadOut {
+    let mut lists = LogLists::new(lengths);
+    let answer = log_into(medium, &mut lists.keys, &mut lists.words, &mut lists.groups);
+    (answer, lists)
+}
+
+// ---------------------------------------------------------------------------
+// Tests of both
 
 /// Makes each of these tests of either implementation.
 #[macro_export]

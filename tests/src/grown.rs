@@ -2,7 +2,8 @@
 //! media of many blocks: formatting alone takes a step for each block there. And
 //! journals whose blocks are put in any order.
 
-use crate::random::{Action, Life, Outcome, Random};
+use crate::player::{Action, Outcome};
+use crate::random::{Life, Random};
 use crate::reader::{
     self, Class, Page, BASE, BLOCK_ADDRESSES, BLOCK_BYTES, BLOCK_PAGES, MAX_BLOCKS, MIN_BLOCKS,
     PAGE_BYTES,
@@ -88,13 +89,7 @@ fn state(life: &Life) -> &reader::State {
 
 /// An operation begun and stepped to its end, or refused: whether it was made.
 fn finished(life: &mut Life, action: &Action) -> bool {
-    if life.act(action) != Outcome::Accepted {
-        return false;
-    }
-    while state(life).pending.is_some() {
-        assert!(matches!(life.act(&Action::Step), Outcome::Stepped(_)));
-    }
-    true
+    life.act(action) == Outcome::Accepted && life.finish(None)
 }
 
 /// A group, appended or flushed: whether it passed. Valves below 180 are used.

@@ -6,11 +6,12 @@
 //! * [`history`]: the plain history that recovery is held to.
 //! * [`before`]: pages that set valve 0, written by hand.
 //! * [`grown`]: journals of many blocks, written for long.
-//! * [`random`]: media, cuts and damage made by chance, always the same ones
-//!   for the same seed.
+//! * [`random`]: media, lists of calls, cuts and damage made by chance, always
+//!   the same ones for the same seed.
 //! * [`valve_journal`]: the first one, the proved library, as users of Rust call
 //!   it; [`proved`]: the same in the second implementation's terms.
-//! * [`calls`]: the calls of either under one name.
+//! * [`calls`]: the calls of either under one name; [`player`]: lists of calls and
+//!   cuts played by either.
 //! * [`run`]: whole operations from C, over a chip whose driver can fail.
 //! * [`stack`]: how much stack a call takes.
 
@@ -20,6 +21,7 @@ pub mod before;
 pub mod calls;
 pub mod grown;
 pub mod history;
+pub mod player;
 pub mod proved;
 pub mod random;
 pub mod reader;

@@ -5,8 +5,9 @@
 mod common;
 
 use common::{blank, lists, read_out, refused, valves, EMPTY};
+use journal_tests::player::{Action, Outcome};
 use journal_tests::proved;
-use journal_tests::random::{cut_mask, Action, Life, Outcome, Random};
+use journal_tests::random::{cut_mask, Life, Random};
 use journal_tests::reader::{self, REMOVAL};
 use journal_tests::run::{Journal, FAILED, NOT_OPEN};
 use std::collections::BTreeMap;
@@ -67,22 +68,11 @@ impl Pair {
             Outcome::Cut { .. } => return 0,
             Outcome::Accepted | Outcome::Stepped(_) => {}
         }
-        if self.life.state.as_ref().is_none_or(|state| state.pending.is_none()) {
-            return 0;
+        if self.life.finish(fails) {
+            0
+        } else {
+            FAILED
         }
-        for nth in 0.. {
-            if let Some((_, mask)) = fails.filter(|&(steps, _)| steps == nth) {
-                self.life.act(&Action::CutInside { mask: mask.to_vec() });
-                return FAILED;
-            }
-            let Outcome::Stepped(step) = self.life.act(&Action::Step) else {
-                panic!("a step of an operation that was begun is refused");
-            };
-            if step.finished {
-                return 0;
-            }
-        }
-        unreachable!()
     }
 
     /// The chip is the life's medium. An open journal has it as its copy, and the

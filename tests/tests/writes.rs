@@ -13,11 +13,13 @@ mod common;
 
 use common::{
     blank, circumstances, expected_read_out, happening, lists, pending_name, read_out, refused,
-    valves, Given, EMPTY,
+    touched, valves, Given, EMPTY,
 };
+use journal_tests::calls::{Calls, Proved, Second};
 use journal_tests::grown::{some_blocks, BLOCK_COUNTS};
+use journal_tests::player::{Action, Answer, Outcome, Player, Reading};
 use journal_tests::proved::{self, VjCells, VjState};
-use journal_tests::random::{self, cut_step, Action, Life, Outcome, Random, Reading};
+use journal_tests::random::{self, Life, Random};
 use journal_tests::reader::{self, Entry, Refused, WordAt, BLOCK_BYTES, PAGE_BYTES, REMOVAL};
 use journal_tests::writer::{self, State, Step, Touched};
 use std::collections::BTreeMap;
@@ -50,15 +52,7 @@ impl Journal {
 
     /// Steps until the pending operation is finished; what each touched.
     fn finish(&mut self) -> Vec<Touched> {
-        let mut touched = Vec::new();
-        while touched.len() < 300 {
-            let step = self.step().expect("a step");
-            touched.push(step.touched);
-            if step.finished {
-                return touched;
-            }
-        }
-        panic!("no operation takes 300 steps");
+        touched(&Proved::finish(&mut self.medium, &mut self.state, &mut self.buffer))
     }
 
     fn begin_append(&mut self, entries: &[(u16, u64)]) -> Result<(), Refused> {
@@ -260,17 +254,6 @@ fn count(counts: &mut Counts, name: impl Into<String>) {
     *counts.entry(name.into()).or_insert(0) += 1;
 }
 
-/// Whether the buffer is lent all FFh from now on: after formatting, a cut or
-/// a recovery.
-fn lent_empty(formatting: bool, action: &Action, outcome: Outcome) -> bool {
-    match outcome {
-        Outcome::Refused(_) => false,
-        Outcome::Accepted => *action == Action::Recover,
-        Outcome::Stepped(step) => formatting && step.finished,
-        Outcome::Cut { .. } => true,
-    }
-}
-
 /// One life led twice: by the second implementation, with the plain history,
 /// and by the proved library on a medium and a state of its own.
 struct Twins {
@@ -306,128 +289,25 @@ impl Twins {
 
     /// Both carry out the action: they answer the same and leave the same.
     fn act(&mut self, action: &Action) -> Outcome {
-        let formatting = self.state.is_some_and(|state| state.operation == proved::FORMAT);
-        let proved = self.act_proved(action);
+        if let Action::Read(reading) = action {
+            self.read(reading);
+        }
+        let (medium, buffer, state) = (&mut self.medium[..], &mut self.buffer, &mut self.state);
+        let proved = Player::<Proved> { medium, buffer, state }.play(action);
         let second = self.life.act(action);
         assert_eq!(proved, second, "{}", happening(action, second));
         assert!(self.medium == self.life.medium, "every byte of the medium");
-        if lent_empty(formatting, action, second) {
-            self.buffer = EMPTY;
-        }
         assert!(self.buffer == self.life.buffer, "every byte of the buffer");
-        let state = self.state.map(|state| state.meaning().expect("a state that means something"));
-        assert_eq!(state, self.life.state);
+        assert_eq!(self.state.as_ref().map(Proved::meaning), self.life.state);
         second
     }
 
-    /// What the proved library makes of the action.
-    fn act_proved(&mut self, action: &Action) -> Outcome {
-        match action {
-            Action::Format => self.handed_back(proved::format(&self.medium)),
-            Action::Recover => self.handed_back(proved::recover(&self.medium)),
-            Action::Cut => self.cut_between(),
-            Action::CutInside { mask } => self.cut_inside(mask),
-            Action::Step => self.step(),
-            Action::Append { keys, words } => {
-                self.call(|m, s, b| proved::append(m, s, b, keys, words))
-            }
-            Action::Commit => self.call(|m, s, b| proved::commit(m, s, b)),
-            Action::Collect { block } => self.call(|m, s, b| proved::collect(m, s, b, *block)),
-            Action::Buffer { keys, words } => {
-                self.call(|m, s, b| proved::buffer(m, s, b, keys, words))
-            }
-            Action::Flush => self.call(|m, s, b| proved::flush(m, s, b)),
-            Action::Read(reading) => self.read(reading),
-        }
-    }
-
-    /// A call that takes no state; a refusal hands none back.
-    fn handed_back(&mut self, result: Result<VjState, Refused>) -> Outcome {
-        match result {
-            Ok(state) => {
-                self.state = Some(state);
-                Outcome::Accepted
-            }
-            Err(Refused(number)) => Outcome::Refused(number),
-        }
-    }
-
-    /// A call that takes a state and does no device step.
-    fn call(
-        &mut self,
-        call: impl FnOnce(&[u8], &mut VjState, &mut [u8]) -> Result<(), Refused>,
-    ) -> Outcome {
-        let state = self.state.as_mut().expect("a state");
-        let given = *state;
-        match call(&self.medium, state, &mut self.buffer) {
-            Ok(()) => Outcome::Accepted,
-            Err(Refused(number)) => {
-                assert!(*state == given, "a refusal hands back the state given");
-                Outcome::Refused(number)
-            }
-        }
-    }
-
-    fn step(&mut self) -> Outcome {
-        let state = self.state.as_mut().expect("a state");
-        let given = *state;
-        match proved::step(&mut self.medium, state, &mut self.buffer) {
-            Ok(step) => Outcome::Stepped(step),
-            Err(Refused(number)) => {
-                assert!(*state == given, "a refusal hands back the state given");
-                Outcome::Refused(number)
-            }
-        }
-    }
-
-    fn cut_between(&mut self) -> Outcome {
-        self.state = None;
-        Outcome::Cut { struck: None, complete: false }
-    }
-
-    /// The step due is made on a copy, to see what the cut strikes.
-    fn cut_inside(&mut self, mask: &[u8]) -> Outcome {
-        let mut state = self.state.take().expect("a state");
-        let mut after = self.medium.clone();
-        let Ok(step) = proved::step(&mut after, &mut state, &mut self.buffer) else {
-            return self.cut_between();
-        };
-        let complete = cut_step(&mut self.medium, &after, &step.touched, mask);
-        Outcome::Cut { struck: Some(step.touched), complete }
-    }
-
     /// A reading: both hand back the same.
-    fn read(&self, reading: &Reading) -> Outcome {
-        let medium = &self.medium;
-        let proved = self.state.as_ref().expect("a state");
-        let second = self.life.state.as_ref().expect("a state");
-        let buffer = &self.buffer;
-        let answer = match *reading {
-            Reading::Wanted { ref records } => same(
-                proved::wanted(medium, proved, records),
-                reader::wanted(medium, second, records),
-            ),
-            Reading::Word { valve } => same(
-                proved::word_at(medium, proved, buffer, valve),
-                reader::word_at(medium, second, buffer, valve),
-            ),
-            Reading::Open { valve } => {
-                same(proved::open(medium, proved, valve), reader::open(medium, second, valve))
-            }
-            Reading::Pick => same(proved::pick(medium, proved), reader::pick(medium, second)),
-            Reading::Survey => same(proved::survey(medium, proved), reader::survey(medium, second)),
-            Reading::Available => same(
-                proved::count_available(medium, proved),
-                reader::count_available(medium, second),
-            ),
-            Reading::Log { keys, words, groups } => {
-                let (answer, lists) = read_out(proved::log_into, medium, [keys, words, groups]);
-                let (other, others) = read_out(reader::log_into, medium, [keys, words, groups]);
-                assert_eq!(lists, others);
-                same(answer, other)
-            }
-        };
-        answer.map_or_else(|Refused(number)| Outcome::Refused(number), |()| Outcome::Accepted)
+    fn read(&self, reading: &Reading) {
+        let (Some(proved), Some(second)) = (&self.state, &self.life.state) else { return };
+        let proved = Answer::of::<Proved>(&self.medium, proved, &self.buffer, reading);
+        let second = Answer::of::<Second>(&self.medium, second, &self.buffer, reading);
+        assert_eq!(proved, second);
     }
 
     /// The words of some valves that are named are those of the settings with
@@ -475,15 +355,6 @@ impl Twins {
         let read = read_out(proved::log_into, &self.medium, lengths);
         assert!(read == expected_read_out(log, lengths), "the log of {} groups", log.len());
     }
-}
-
-/// Both answers are the same; whether it is a refusal.
-fn same<T: PartialEq + Debug>(
-    proved: Result<T, Refused>,
-    second: Result<T, Refused>,
-) -> Result<(), Refused> {
-    assert_eq!(proved, second);
-    second.map(drop)
 }
 
 /// One list of calls and cuts on so many blocks, compared event by event.

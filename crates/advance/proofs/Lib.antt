@@ -2,3 +2,4 @@ pub mod Laws
 pub mod Facts
 pub mod First
 pub mod Kinded
+pub mod Refusals

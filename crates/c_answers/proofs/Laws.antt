@@ -9,13 +9,13 @@ use lib.Seq.{ext-getD, getD-set-same, getD-set-other}
 use lib.Dec.{eqb}
 use borrow.Author.Tests.{le-leb, lt-leb}
 use Rattle.lists.specs.Lists.{table}
-use Rattle.lists.proofs.Laws.{by-cases, length-table, get-table}
+use Rattle.lists.specs.Needs.{gives, answered, andThen}
+use Rattle.lists.proofs.Laws.{answered-then, by-cases, length-table, get-table}
 use Rattle.flash.specs.Medium.{views, pageAt}
 use Rattle.state.specs.declared.State.{State}
 use Rattle.state.specs.State.{meaning}
-use Rattle.read.specs.Answers.{surveyedOf}
 use Rattle.readings.specs.Readings.{surveyOf}
-use Rattle.c_answers.specs.Forms.{IsPage, mostCounts, joined, joinedIn, surveyBy}
+use Rattle.c_answers.specs.Forms.{IsPage, mostCounts, joined}
 
 -- ---- pages
 
@@ -50,10 +50,6 @@ joined-end rows xs i h t =
     ext-getD 0 xs (table mostCounts (λ k. getD (getD rows (k / 3) []) (k % 3) 0)) (t .long ∙ sym (length-table (λ k. getD (getD rows (k / 3) []) (k % 3) 0) 0 mostCounts))
     (λ k l. t .so k (omega (arith, t .long)) ∙ sym (get-table (λ j. getD (getD rows (j / 3) []) (j % 3) 0) 0 mostCounts k (omega (arith, t .long))))
 
-survey-joined : (n : ℕ) (rows : List (List ℕ)) → surveyBy (record { number = n; counts = joined rows }) ≡ joinedIn (surveyedOf n rows)
-unfolding surveyBy joinedIn
-survey-joined n rows = by-cases (eqb n 0) (λ h. rw h) (λ h. rw h)
-
-pub survey-tells : (m : List ℕ) (s : State) (n : ℕ) (rows : List (List ℕ)) (xs : List ℕ) → surveyedOf n rows ≡ surveyOf (length m) (views m) (meaning s) → xs ≡ joined rows
-    → surveyBy (record { number = n; counts = xs }) ≡ joinedIn (surveyOf (length m) (views m) (meaning s))
-survey-tells m s n rows xs g z = ap (λ (x : List ℕ). surveyBy (record { number = n; counts = x })) z ∙ survey-joined n rows ∙ ap joinedIn g
+pub survey-tells : (m : List ℕ) (s : State) (n : ℕ) (rows : List (List ℕ)) (xs : List ℕ) → answered n rows ≡ surveyOf (length m) (views m) (meaning s) → xs ≡ joined rows
+    → answered n xs ≡ andThen (surveyOf (length m) (views m) (meaning s)) (λ rows. gives (joined rows))
+survey-tells m s n rows xs g z = ap (answered n) z ∙ answered-then n rows joined ∙ ap (λ a. andThen a (λ rows. gives (joined rows))) g

@@ -4,13 +4,14 @@ use mathlib.Core.Bool.{cond}
 use mathlib.Core.List.{List, []}
 use Prim.Native.Nat.{ℕ, _+_, _*_, _/_, _%_}
 use lib.ListN.{length, getD}
-use lib.Dec.{eqb, leb}
+use lib.Dec.{leb}
 use Rattle.lists.specs.Lists.{table}
+use Rattle.lists.specs.Needs.{gives, answered, andThen}
 use Rattle.codec.specs.Codec.{part}
 use Rattle.flash.specs.Medium.{mostBlocks, views, pageAt}
 use Rattle.state.specs.declared.State.{State}
 use Rattle.state.specs.State.{meaning}
-use Rattle.readings.specs.Readings.{Survey, counts, surveyOf}
+use Rattle.readings.specs.Readings.{surveyOf}
 use Rattle.c_answers.specs.declared.VjPart.{VjPart}
 use Rattle.c_answers.specs.declared.VjSurvey.{VjSurvey}
 
@@ -31,17 +32,6 @@ mostCounts = 3 * mostBlocks
 unfoldable pub joined : List (List ℕ) → List ℕ
 joined rows = table mostCounts (λ i. getD (getD rows (i / 3) []) (i % 3) 0)
 
-pub data Joined : Type 0 where
-  turnedBack : ℕ → Joined
-  inOne : List ℕ → Joined
-
-unfoldable pub joinedIn : Survey → Joined
-joinedIn (Survey.turnedBack n) = Joined.turnedBack n
-joinedIn (counts rows) = inOne (joined rows)
-
-unfoldable pub surveyBy : VjSurvey → Joined
-surveyBy r = cond (eqb (r .number) 0) (inOne (r .counts)) (Joined.turnedBack (r .number))
-
 -- what `survey` promises of a medium m and a state s
 abbrev pub SurveysInOne : List ℕ → State → VjSurvey → Type 0
-SurveysInOne m s r = surveyBy r ≡ joinedIn (surveyOf (length m) (views m) (meaning s))
+SurveysInOne m s r = answered (r .number) (r .counts) ≡ andThen (surveyOf (length m) (views m) (meaning s)) (λ rows. gives (joined rows))

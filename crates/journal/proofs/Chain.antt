@@ -11,9 +11,9 @@ use lib.ListN.{length}
 use borrow.Author.Tests.{eqb-true, eq-eqb, not-true}
 use Rattle.lists.specs.declared.Cell.{Cell}
 use Rattle.lists.specs.Lists.{all, isSome, valueOr}
-use Rattle.lists.specs.Needs.{Need, checked}
+use Rattle.lists.specs.Needs.{Answer, refused, gives, answered, andThen, Need, under}
 use Rattle.lists.specs.Cells.{cell, Entry}
-use Rattle.lists.proofs.Laws.{by-cases, all-head, all-tail}
+use Rattle.lists.proofs.Laws.{by-cases, true-false, all-head, all-tail, answered-gives, gave-number, gave-value, refused-with}
 use Rattle.page.specs.Pages.{View}
 use Rattle.flash.specs.Medium.{views}
 use Rattle.index.specs.Index.{lookup}
@@ -21,13 +21,13 @@ use Rattle.blocks.specs.Blocks.{sizeOk}
 use Rattle.nodes.specs.Nodes.{wordAt}
 use Rattle.state.specs.declared.State.{State}
 use Rattle.state.specs.State.{Held, meaning, fit}
-use Rattle.recovery.specs.Recovery.{Recovery, recover as recoverOf}
+use Rattle.recovery.specs.Recovery.{Recovery, recoveryWith, recover as recoverOf}
 use Rattle.recover.specs.declared.Recovered.{Recovered}
-use Rattle.recover.specs.Told as told
-use Rattle.recover.specs.Told.{Recovers}
-use Rattle.readings.specs.Readings.{filed, readInto, readLog, Opening, openingOf, pickOf, filedSettings, readSettings}
+use Rattle.recover.specs.Recovers.{Recovers}
+use Rattle.readings.specs.Readings.{filedLog, readLog, filedSettings, readSettings, openingOf, pickOf}
+use Rattle.filing.specs.Filed.{leaving}
 use Rattle.read.specs.Answers.{wordOr6}
-use Rattle.calls.specs.Calls.{Call, Buffering, formatOf, bufferNeeds, bufferOf}
+use Rattle.calls.specs.Calls.{formatOf, bufferNeeds, bufferOf}
 use Rattle.step.specs.Step.{Step, mediumAfter, bufferAfter}
 use Rattle.begin.specs.declared.Begun.{Begun}
 use Rattle.begin.specs.Begun as begun
@@ -36,40 +36,40 @@ use Rattle.advance.specs.Outcomes as outcomes
 use Rattle.advance.specs.Outcomes.{Outcome, touchedBy, doneOf, outcome, done, performed}
 use Rattle.valve_log.specs.History.{History, start as noHistory, Told, unchanged, steppedPage, steppedBlock, tell}
 use Rattle.valve_log.specs.Reached as reached
-use Rattle.valve_log.specs.Reached.{World, world, withState, stepDue, Event, fresh, lentAnew, called, filled, stepped, recovered, cutShort, happen, accepted, finishes, meanwhile, Words, end, more, Shows, Point3}
+use Rattle.valve_log.specs.Reached.{World, world, withState, stepDue, Event, fresh, lentAnew, called, filled, stepped, recovered, cutShort}
+use Rattle.valve_log.specs.Reached.{happen, accepted, finishes, meanwhile, Words, end, more, Shows, Point3}
 use Rattle.valve_log.specs.Steady.{Steady, Answers}
 use Rattle.valve_log.proofs.Point3.{point3}
 use Rattle.valve_log.proofs.Steady.{steady}
 use Rattle.valve_log.specs.Settings.{SettingsTold}
 use Rattle.valve_log.proofs.Settings.{settings-told}
-use Rattle.journal.specs.Run.{Machine, meant, worldOf, goingOn, lentOn, Moves, begunBy, steppedBy, recoveredBy, toldBy, saysFinished, finishedBy, meanwhileBy, Formatting, Run, openingIn, Handed, Point3OfCode}
+use Rattle.journal.specs.Run.{Machine, meant, worldOf, goingOn, lentOn, Moves, begunBy, steppedBy, recoveredBy, toldBy, saysFinished}
+use Rattle.journal.specs.Run.{finishedBy, meanwhileBy, Formatting, Run, openingIn, Handed, Point3OfCode}
 
 -- ---- one event
 
+-- a number that is none
+none-such : {P : Type 0} (n : ℕ) → eqb n 0 ≡ false → n ≡ 0 → P
+none-such n q z = true-false (eq-eqb n 0 z) q
+
 -- a call that begins an operation
-begins : (m : List ℕ) (s : State) (b : List ℕ) (t : Told) (c : Call) (r : Begun) → begun.toldOf r ≡ begun.given s c
+begins : (m : List ℕ) (s : State) (b : List ℕ) (t : Told) (c : Answer Held) (r : Begun) → begun.Begins s c r
     → world m (some (meaning (r .state))) b ≡ called (world m (some (meaning s)) b) t c .after
-unfolding called begun.toldOf
-begins m s b t (Call.refused n) r e =
-    by-cases (eqb (r .number) 0)
-    (λ q. let y = rw q at e in let z : _≡_ {A = ℕ} 0 1 = cc in absurd (omega arith))
-    (λ q. let y = rw q at e in let z : r .state ≡ s = cc in rw z)
-begins m s b t (Call.begun h) r e =
-    by-cases (eqb (r .number) 0)
-    (λ q. let y = rw q at e in let z : meaning (r .state) ≡ h = cc in ap (λ (x : Held). world m (some x) b) z)
-    (λ q. let y = rw q at e in let z : _≡_ {A = ℕ} 0 1 = cc in absurd (omega arith))
+unfolding called
+begins m s b t (refused n) r p = ap (λ (x : State). world m (some (meaning x)) b) (p .back (none-such (r .number) (refused-with (r .number) (meaning (r .state)) n (p .is))))
+begins m s b t (gives h) r p = ap (λ (x : Held). world m (some x) b) (gave-value (r .number) (meaning (r .state)) h (p .is))
 
 -- a group put into the buffer
-fills : (m : List ℕ) (s : State) (b : List ℕ) (t : Told) (c : Buffering) (r : ℕ) (b′ : List ℕ) → begun.filled r b′ ≡ begun.filledBy b c
+fills : (m : List ℕ) (s : State) (b : List ℕ) (t : Told) (c : Answer (List ℕ)) (r : ℕ) (b′ : List ℕ) → begun.filled r b′ ≡ begun.filledBy b c
     → world m (some (meaning s)) b′ ≡ filled (world m (some (meaning s)) b) t c .after
 unfolding filled
-fills m s b t (Buffering.refused n) r b′ e = ap (λ (x : begun.Filled). world m (some (meaning s)) (x .buffer)) e
-fills m s b t (Buffering.buffered c) r b′ e = ap (λ (x : begun.Filled). world m (some (meaning s)) (x .buffer)) e
+fills m s b t (refused n) r b′ e = ap (λ (x : begun.Filled). world m (some (meaning s)) (x .buffer)) e
+fills m s b t (gives c) r b′ e = ap (λ (x : begun.Filled). world m (some (meaning s)) (x .buffer)) e
 
 -- what the state holds after what a step's answer says
 unfoldable heldAfter : Held → Option outcomes.Done → Held
 heldAfter h none = h
-heldAfter h (some (outcomes.turnedBack n s)) = meaning s
+heldAfter h (some (outcomes.Done.refused n s)) = meaning s
 heldAfter h (some (outcomes.page p finished after)) = after
 heldAfter h (some (outcomes.block b finished after)) = after
 
@@ -84,40 +84,36 @@ said h r d e =
     (λ q. rw q)
 
 -- a step leaves what its definition says
-left : (m : List ℕ) (s : State) (b : List ℕ) (t : Step) → world (mediumAfter m t) (some (heldAfter (meaning s) (some (done s t)))) (bufferAfter b t) ≡ stepped (world m (some (meaning s)) b) t .after
+left : (m : List ℕ) (s : State) (b : List ℕ) (t : Answer Step)
+    → world (mediumAfter m t) (some (heldAfter (meaning s) (some (done s t)))) (bufferAfter b t) ≡ stepped (world m (some (meaning s)) b) t .after
 unfolding stepped done mediumAfter bufferAfter heldAfter
-left m s b (Step.refused n) = refl
-left m s b (Step.program p pg x finished) = refl
-left m s b (Step.erase c x finished) = refl
+left m s b (refused n) = refl
+left m s b (gives (Step.program p pg x finished)) = refl
+left m s b (gives (Step.erase c x finished)) = refl
 
-steps : (m m′ : List ℕ) (s : State) (b b′ : List ℕ) (t : Step) (r : Stepped) → outcome r m′ ≡ performed m s t → b′ ≡ bufferAfter b t
+steps : (m m′ : List ℕ) (s : State) (b b′ : List ℕ) (t : Answer Step) (r : Stepped) → outcome r m′ ≡ performed m s t → b′ ≡ bufferAfter b t
     → world m′ (some (meaning (r .state))) b′ ≡ stepped (world m (some (meaning s)) b) t .after
 unfolding performed
 steps m m′ s b b′ t r e f =
     let d : doneOf r ≡ some (done s t) = ap (λ (o : Outcome). o .done) e in
     let y : m′ ≡ mediumAfter m t = ap (λ (o : Outcome). o .medium) e in
     let z : meaning (r .state) ≡ heldAfter (meaning s) (some (done s t)) = sym (said (meaning s) r (done s t) d) ∙ ap (heldAfter (meaning s)) d in
-    ap (λ (l : List ℕ). world l (some (meaning (r .state))) b′) y ∙ ap (λ (x : Held). world (mediumAfter m t) (some x) b′) z ∙ ap (λ (l : List ℕ). world (mediumAfter m t) (some (heldAfter (meaning s) (some (done s t)))) l) f ∙ left m s b t
+    ap (λ (l : List ℕ). world l (some (meaning (r .state))) b′) y ∙ ap (λ (x : Held). world (mediumAfter m t) (some x) b′) z
+    ∙ ap (λ (l : List ℕ). world (mediumAfter m t) (some (heldAfter (meaning s) (some (done s t)))) l) f ∙ left m s b t
 
 -- a recovery
-recovers : (m : List ℕ) (s : Option State) (b : List ℕ) (R : Recovery) (r : Recovered) → told.told (r .number) (r .state) ≡ told.tell R
+recovers : (m : List ℕ) (s : Option State) (b : List ℕ) (R : Answer Recovery) (r : Recovered) → answered (r .number) (meaning (r .state)) ≡ andThen R (λ x. gives (x .state))
     → world m (meant (goingOn r s)) (lentOn r b) ≡ recovered (world m (meant s) b) R .after
-unfolding recovered told.told told.tell goingOn lentOn meant
-recovers m s b (Recovery.refused n) r e =
-    by-cases (eqb (r .number) 0)
-    (λ q. let y = rw q at e in let z : _≡_ {A = ℕ} 0 1 = cc in absurd (omega arith))
-    (λ q. rw q)
-recovers m s b (Recovery.recovered log h) r e =
-    by-cases (eqb (r .number) 0)
-    (λ q. let y = rw q at e in let z : meaning (r .state) ≡ h = cc in rw (q, z))
-    (λ q. let y = rw q at e in let z : _≡_ {A = ℕ} 0 1 = cc in absurd (omega arith))
+unfolding recovered andThen goingOn lentOn meant
+recovers m s b (refused n) r e = rw (refused-with (r .number) (meaning (r .state)) n e)
+recovers m s b (gives x) r e = rw (eq-eqb (r .number) 0 (gave-number (r .number) (meaning (r .state)) (x .state) e), gave-value (r .number) (meaning (r .state)) (x .state) e)
 
 -- a cut inside a step
-cuts : (w : World) (left : List ℕ) (t : Step) → reached.CutOf (w .medium) t left → world left none fresh ≡ cutShort w left t .after
+cuts : (w : World) (left : List ℕ) (t : Answer Step) → reached.CutOf (w .medium) t left → world left none fresh ≡ cutShort w left t .after
 unfolding cutShort reached.CutOf
-cuts w left (Step.refused n) a = absurd a
-cuts w left (Step.program p pg after finished) a = refl
-cuts w left (Step.erase b after finished) a = refl
+cuts w left (refused n) a = absurd a
+cuts w left (gives (Step.program p pg after finished)) a = refl
+cuts w left (gives (Step.erase b after finished)) a = refl
 
 -- the machine moves as the world does
 pub moves : (x y : Machine) (e : Event (worldOf x)) → Moves x e y → worldOf y ≡ happen (worldOf x) e .after
@@ -136,12 +132,12 @@ moves x y e (Moves.cutInside m left s b allowed) = cuts (world m (some (meaning 
 -- ---- what the answers say
 
 -- a refusal of the buffer's call has a number
-unfoldable numbered : Buffering → Bool
-numbered (Buffering.refused n) = not (eqb n 0)
-numbered (Buffering.buffered b) = true
+unfoldable numbered : Answer (List ℕ) → Bool
+numbered (refused n) = not (eqb n 0)
+numbered (gives b) = true
 
-all-numbered : (cs : List Need) (c : Buffering) → numbered c ≡ true → all (λ x. not (eqb (x .number) 0)) cs ≡ true → numbered (checked Buffering.refused cs c) ≡ true
-unfolding checked
+all-numbered : (cs : List Need) (c : Answer (List ℕ)) → numbered c ≡ true → all (λ x. not (eqb (x .number) 0)) cs ≡ true → numbered (under cs c) ≡ true
+unfolding under
 all-numbered [] c k a = k
 all-numbered (x ∷ xs) c k a =
     by-cases (x .holds) (λ q. rw q (all-numbered xs c k (all-tail (λ (y : Need). not (eqb (y .number) 0)) x xs a)))
@@ -152,33 +148,27 @@ unfolding bufferOf
 buffer-numbered n v s b ks ws = all-numbered (bufferNeeds n v s b ks ws) _ (unfold numbered in refl) (unfold all in refl)
 
 -- what a call that begins an operation says
-begins-told : (w : World) (s : State) (t : Told) (c : Call) (r : Begun) → begun.toldOf r ≡ begun.given s c → begunBy (r .number) t ≡ called w t c .told
-unfolding called begun.toldOf begunBy
-begins-told w s t (Call.refused n) r e =
-    by-cases (eqb (r .number) 0)
-    (λ q. let y = rw q at e in let z : _≡_ {A = ℕ} 0 1 = cc in absurd (omega arith))
-    (λ q. rw q)
-begins-told w s t (Call.begun h) r e =
-    by-cases (eqb (r .number) 0)
-    (λ q. rw q)
-    (λ q. let y = rw q at e in let z : _≡_ {A = ℕ} 0 1 = cc in absurd (omega arith))
+begins-told : (w : World) (s : State) (t : Told) (c : Answer Held) (r : Begun) → begun.Begins s c r → begunBy (r .number) t ≡ called w t c .told
+unfolding called begunBy
+begins-told w s t (refused n) r p = rw (refused-with (r .number) (meaning (r .state)) n (p .is))
+begins-told w s t (gives h) r p = rw (eq-eqb (r .number) 0 (gave-number (r .number) (meaning (r .state)) h (p .is)))
 
 -- what a call that puts a group into the buffer says: a refusal's number is not 0
-fills-told : (w : World) (b : List ℕ) (t : Told) (c : Buffering) (r : ℕ) (b′ : List ℕ) → numbered c ≡ true → begun.filled r b′ ≡ begun.filledBy b c → begunBy r t ≡ filled w t c .told
+fills-told : (w : World) (b : List ℕ) (t : Told) (c : Answer (List ℕ)) (r : ℕ) (b′ : List ℕ) → numbered c ≡ true → begun.filled r b′ ≡ begun.filledBy b c → begunBy r t ≡ filled w t c .told
 unfolding filled begunBy numbered
-fills-told w b t (Buffering.refused n) r b′ k e = let z : r ≡ n = ap (λ (x : begun.Filled). x .number) e in rw (z, not-true (eqb n 0) k)
-fills-told w b t (Buffering.buffered c) r b′ k e = let z : r ≡ 0 = ap (λ (x : begun.Filled). x .number) e in rw z
+fills-told w b t (refused n) r b′ k e = let z : r ≡ n = ap (λ (x : begun.Filled). x .number) e in rw (z, not-true (eqb n 0) k)
+fills-told w b t (gives c) r b′ k e = let z : r ≡ 0 = ap (λ (x : begun.Filled). x .number) e in rw z
 
 -- what a step's answer says, of what was touched and whether it finished
 unfoldable toldDone : Option outcomes.Done → Told
 toldDone none = unchanged
-toldDone (some (outcomes.turnedBack n s)) = unchanged
+toldDone (some (outcomes.Done.refused n s)) = unchanged
 toldDone (some (outcomes.page p finished after)) = steppedPage
 toldDone (some (outcomes.block b finished after)) = steppedBlock
 
 unfoldable finishedDone : Option outcomes.Done → Bool
 finishedDone none = false
-finishedDone (some (outcomes.turnedBack n s)) = false
+finishedDone (some (outcomes.Done.refused n s)) = false
 finishedDone (some (outcomes.page p finished after)) = finished
 finishedDone (some (outcomes.block b finished after)) = finished
 
@@ -199,19 +189,19 @@ module _ (r : Stepped) where
       (λ l. let y = rw (q, k, l) at e in let z : _≡_ {A = ℕ} 0 1 = cc in absurd (omega arith))))
       (λ q. rw q)
 
-due-told : (w : World) (s : State) (t : Step) → toldDone (some (done s t)) ≡ stepped w t .told
+due-told : (w : World) (s : State) (t : Answer Step) → toldDone (some (done s t)) ≡ stepped w t .told
 unfolding stepped done toldDone
-due-told w s (Step.refused n) = refl
-due-told w s (Step.program p pg x finished) = refl
-due-told w s (Step.erase b x finished) = refl
+due-told w s (refused n) = refl
+due-told w s (gives (Step.program p pg x finished)) = refl
+due-told w s (gives (Step.erase b x finished)) = refl
 
-due-finished : (s : State) (t : Step) → finishedDone (some (done s t)) ≡ finishes t
+due-finished : (s : State) (t : Answer Step) → finishedDone (some (done s t)) ≡ finishes t
 unfolding finishes done finishedDone
-due-finished s (Step.refused n) = refl
-due-finished s (Step.program p pg x finished) = refl
-due-finished s (Step.erase b x finished) = refl
+due-finished s (refused n) = refl
+due-finished s (gives (Step.program p pg x finished)) = refl
+due-finished s (gives (Step.erase b x finished)) = refl
 
-module _ (m m′ : List ℕ) (s : State) (t : Step) (r : Stepped) (e : outcome r m′ ≡ performed m s t) where
+module _ (m m′ : List ℕ) (s : State) (t : Answer Step) (r : Stepped) (e : outcome r m′ ≡ performed m s t) where
   done-is : doneOf r ≡ some (done s t)
   unfolding performed
   done-is = ap (λ (o : Outcome). o .done) e
@@ -223,27 +213,15 @@ module _ (m m′ : List ℕ) (s : State) (t : Step) (r : Stepped) (e : outcome r
   steps-finished = done-finished r (done s t) done-is ∙ ap finishedDone done-is ∙ due-finished s t
 
 -- what a recovery says
-recovers-told : (w : World) (R : Recovery) (r : Recovered) → told.told (r .number) (r .state) ≡ told.tell R → recoveredBy r ≡ recovered w R .told
-unfolding recovered told.told told.tell recoveredBy
-recovers-told w (Recovery.refused n) r e =
-    by-cases (eqb (r .number) 0)
-    (λ q. let y = rw q at e in let z : _≡_ {A = ℕ} 0 1 = cc in absurd (omega arith))
-    (λ q. rw q)
-recovers-told w (Recovery.recovered log h) r e =
-    by-cases (eqb (r .number) 0)
-    (λ q. rw q)
-    (λ q. let y = rw q at e in let z : _≡_ {A = ℕ} 0 1 = cc in absurd (omega arith))
+recovers-accepted : (R : Answer Recovery) (r : Recovered) → answered (r .number) (meaning (r .state)) ≡ andThen R (λ x. gives (x .state)) → eqb (r .number) 0 ≡ accepted R
+unfolding accepted andThen
+recovers-accepted (refused n) r e = refused-with (r .number) (meaning (r .state)) n e
+recovers-accepted (gives x) r e = eq-eqb (r .number) 0 (gave-number (r .number) (meaning (r .state)) (x .state) e)
 
-recovers-accepted : (R : Recovery) (r : Recovered) → told.told (r .number) (r .state) ≡ told.tell R → eqb (r .number) 0 ≡ accepted R
-unfolding accepted told.told told.tell
-recovers-accepted (Recovery.refused n) r e =
-    by-cases (eqb (r .number) 0)
-    (λ q. let y = rw q at e in let z : _≡_ {A = ℕ} 0 1 = cc in absurd (omega arith))
-    (λ q. q)
-recovers-accepted (Recovery.recovered log h) r e =
-    by-cases (eqb (r .number) 0)
-    (λ q. q)
-    (λ q. let y = rw q at e in let z : _≡_ {A = ℕ} 0 1 = cc in absurd (omega arith))
+recovers-told : (w : World) (R : Answer Recovery) (r : Recovered) → answered (r .number) (meaning (r .state)) ≡ andThen R (λ x. gives (x .state)) → recoveredBy r ≡ recovered w R .told
+unfolding recovered recoveredBy accepted
+recovers-told w (refused n) r e = rw (recovers-accepted (refused n) r e)
+recovers-told w (gives x) r e = rw (recovers-accepted (gives x) r e)
 
 -- what the history is told by the answers is what it is told by the definitions
 pub answers-told : (x y : Machine) (e : Event (worldOf x)) (v : Moves x e y) → toldBy x y e v ≡ happen (worldOf x) e .told
@@ -279,10 +257,8 @@ answers-finished x y (Moves.step m m′ s b b′ r p) = steps-finished m m′ s 
 
 -- ---- lists of events
 
-pub formats : (m : List ℕ) (c : Call) (r : Begun) → begun.formattedOf r ≡ begun.asFormatted c → r .number ≡ 0 → c ≡ Call.begun (meaning (r .state))
-unfolding begun.toldOf
-formats m (Call.refused n) r e q = let y = rw (eq-eqb (r .number) 0 q) at e in let z : _≡_ {A = ℕ} 0 1 = cc in absurd (omega arith)
-formats m (Call.begun h) r e q = let y = rw (eq-eqb (r .number) 0 q) at e in let z : meaning (r .state) ≡ h = cc in rw z
+pub formats : (m : List ℕ) (r : Begun) → begun.Formats m r → r .number ≡ 0 → formatOf (length m) ≡ gives (meaning (r .state))
+formats m r e q = sym e ∙ answered-gives (r .number) (meaning (r .state)) q
 
 -- what the world comes to, the machine comes to
 there : (P : World → Type 0) (x y : Machine) (e : Event (worldOf x)) → Moves x e y → P (happen (worldOf x) e .after) → P (worldOf y)
@@ -290,7 +266,7 @@ there P x y e v p = subst P (sym (moves x y e v)) p
 
 formatting : (x : Machine) → Formatting x → reached.Formatting (worldOf x)
 unfolding meant
-formatting x (Formatting.begun m r bs b f q) = reached.begun m (meaning (r .state)) bs b (formats m (formatOf (length m)) r f q)
+formatting x (Formatting.begun m r bs b f q) = reached.begun m (meaning (r .state)) bs b (formats m r f q)
 formatting x (Formatting.next z y e f v ok) =
     there reached.Formatting z y e v (reached.next (worldOf z) e (formatting z f) (sym (answers-meanwhile z y e v) ∙ ok))
 
@@ -306,21 +282,21 @@ runs x h (Run.next z y k e r v) =
 -- a reached medium and the state recovered from it pass 1 and 7
 module _ (m : List ℕ) (s : Held) (bs : List ℕ) (a : Answers m s bs) where
   size-met : sizeOk (length m) ≡ true
-  unfolding pickOf checked
+  unfolding pickOf under
   size-met = by-cases (sizeOk (length m)) (λ q. q) (λ q. absurd (a .pick 1 (rw q)))
 
   fit-met : fit (views m) s ≡ true
-  unfolding pickOf checked
+  unfolding pickOf under
   fit-met = by-cases (fit (views m) s) (λ q. q) (λ q. absurd (a .pick 7 (rw (size-met, q))))
 
 -- the opening of a valve whose place of the index is given
-unfoldable openAt : List View → ℕ → Option ℕ → Opening
-openAt v valve none = Opening.turnedBack 18
+unfoldable openAt : List View → ℕ → Option ℕ → Answer ℕ
+openAt v valve none = refused 18
 openAt v valve (some a) = wordOr6 (wordAt v (cell valve a))
 
 opens : (n : ℕ) (v : List View) (s : Held) (valve : ℕ) (o : Option ℕ) (w : Option ℕ) → sizeOk n ≡ true → fit v s ≡ true → lookup valve (s .index) ≡ o → wordAt v (cell valve (valueOr 0 o)) ≡ w
     → openingOf n v s valve ≡ openAt v valve o
-unfolding openingOf checked openAt wordOr6 isSome valueOr
+unfolding openingOf under openAt wordOr6 isSome valueOr
 opens n v s valve none w z f e q = rw (z, f, e)
 opens n v s valve (some a) none z f e q = rw (z, f, e, q)
 opens n v s valve (some a) (some x) z f e q = rw (z, f, e, q)
@@ -336,30 +312,26 @@ words-open v valve (more {k} {a} {w} {index} {settings} q t) =
     (λ f. rw (e, f) (words-open v valve t)))
 
 -- recovery's answer where the definition accepts
-module _ (m : List ℕ) (log : List (List Entry)) (s : Held) (a : recoverOf (length m) (views m) ≡ Recovery.recovered log s) (r : Recovered) (p : Recovers m r) where
-  says : told.told (r .number) (r .state) ≡ told.state s
-  unfolding told.tell
-  says = p ∙ ap told.tell a
+module _ (m : List ℕ) (log : List (List Entry)) (s : Held) (a : recoverOf (length m) (views m) ≡ gives (recoveryWith log s)) (r : Recovered) (p : Recovers m r) where
+  says : answered (r .number) (meaning (r .state)) ≡ gives s
+  unfolding andThen
+  says = p ∙ ap (λ R. andThen R (λ x. gives (x .state))) a
 
   found-number : r .number ≡ 0
-  unfolding told.told
-  found-number =
-      by-cases (eqb (r .number) 0) (λ q. eqb-true (r .number) 0 q)
-      (λ q. let y = rw q at says in let z : _≡_ {A = ℕ} 0 1 = cc in absurd (omega arith))
+  found-number = gave-number (r .number) (meaning (r .state)) s says
 
   found-state : meaning (r .state) ≡ s
-  unfolding told.told
-  found-state = let y = rw (eq-eqb (r .number) 0 found-number) at says in cc
+  found-state = gave-value (r .number) (meaning (r .state)) s says
 
 module _ (w : World) (h : History) (R : reached.Reached w h) (S : Shows (w .medium) h) where
-  log-shown : (ks ws ns : List ℕ) → readLog (length (w .medium)) (views (w .medium)) ks ws ns ≡ filed ks ws ns (h .log)
-  unfolding readLog readInto
-  log-shown ks ws ns = ap (readInto ks ws ns) (S .accepts) ∙ ap (filed ks ws ns) (S .same-log)
+  log-shown : (lists : List (List ℕ)) → readLog (length (w .medium)) (views (w .medium)) lists ≡ filedLog lists (h .log)
+  unfolding readLog andThen
+  log-shown lists = ap (λ R. andThen R (λ r. filedLog lists (r .log))) (S .accepts) ∙ ap (filedLog lists) (S .same-log)
 
   -- the list with this recovery is one more
   after : happen w Event.recover .after ≡ world (w .medium) (some (S .state)) fresh
   unfolding happen recovered
-  after = ap (λ (t : Recovery). recovered w t .after) (S .accepts)
+  after = ap (λ (t : Answer Recovery). recovered w t .after) (S .accepts)
 
   found : reached.Reached (world (w .medium) (some (S .state)) fresh) (tell h (happen w Event.recover .told))
   found = subst (λ x. reached.Reached x (tell h (happen w Event.recover .told))) after (reached.next w h Event.recover R)
@@ -376,26 +348,28 @@ module _ (w : World) (h : History) (R : reached.Reached w h) (S : Shows (w .medi
   -- a recovery leaves the settings as they are
   kept : tell h (happen w Event.recover .told) .settings ≡ h .settings
   unfolding happen recovered tell
-  kept = ap (λ (t : Recovery). tell h (recovered w t .told) .settings) (S .accepts)
+  kept = ap (λ (t : Answer Recovery). tell h (recovered w t .told) .settings) (S .accepts)
 
-  list-shown : (valves ws : List ℕ) → readSettings (length (w .medium)) (views (w .medium)) (S .state) valves ws ≡ filedSettings valves ws (h .settings)
+  list-shown : (lists : List (List ℕ)) → readSettings (length (w .medium)) (views (w .medium)) (S .state) lists ≡ filedSettings lists (h .settings)
   unfolding SettingsTold
-  list-shown valves ws =
-      settings-told (world (w .medium) (some (S .state)) fresh) (tell h (happen w Event.recover .told)) (S .state) valves ws found refl
-      ∙ ap (filedSettings valves ws) kept
+  list-shown lists =
+      settings-told (world (w .medium) (some (S .state)) fresh) (tell h (happen w Event.recover .told)) (S .state) lists found refl ∙ ap (filedSettings lists) kept
 
   handed : Handed (w .medium) h
   handed =
       record {
         accepted = found-number (w .medium) (S .log) (S .state) (S .accepts);
-        log = λ ks ws ns ks′ ws′ ns′ a p. p ∙ log-shown ks ws ns;
+        log = λ ks ws ns ks′ ws′ ns′ a p. p ∙ ap (leaving (ks ∷ ws ∷ ns ∷ [])) (log-shown (ks ∷ ws ∷ ns ∷ []));
         settings = λ r p. subst (λ l. Words (views (w .medium)) l (h .settings)) (sym (ap (λ (x : Held). x .index) (state-is r p))) (S .same-settings);
         opening = λ r valve a p q. q ∙ ap (λ (x : Held). openingOf (length (w .medium)) (views (w .medium)) x valve) (state-is r p) ∙ valve-shown valve;
-        list = λ r valves ws valves′ ws′ a p q. q ∙ ap (λ (x : Held). readSettings (length (w .medium)) (views (w .medium)) x valves ws) (state-is r p) ∙ list-shown valves ws;
+        list = λ r valves ws valves′ ws′ a p q. q ∙ ap (leaving (valves ∷ ws ∷ [])) (list-is r p (valves ∷ ws ∷ []));
       }
     where
       state-is : (r : Recovered) → Recovers (w .medium) r → meaning (r .state) ≡ S .state
       state-is r p = found-state (w .medium) (S .log) (S .state) (S .accepts) r p
+
+      list-is : (r : Recovered) → Recovers (w .medium) r → (lists : List (List ℕ)) → readSettings (length (w .medium)) (views (w .medium)) (meaning (r .state)) lists ≡ filedSettings lists (h .settings)
+      list-is r p lists = ap (λ (x : Held). readSettings (length (w .medium)) (views (w .medium)) x lists) (state-is r p) ∙ list-shown lists
 
 -- Point 3, of the code.
 pub point3-of-code : Point3OfCode

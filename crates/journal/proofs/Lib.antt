@@ -2,3 +2,4 @@ pub mod Chain
 pub mod Started
 pub mod Weak
 pub mod Wanted
+pub mod Word

@@ -12,8 +12,9 @@ use borrow.Author.Tests.{eqb-true}
 use Rattle.lists.specs.declared.Cell.{Cell}
 use Rattle.lists.specs.declared.Cells.{Cells}
 use Rattle.lists.specs.Lists.{Bytes, first, table, oneIf}
+use Rattle.lists.specs.Needs.{Answer, refused, gives}
 use Rattle.lists.specs.Cells.{cell, pairs, listed, keysOf, wordsOf}
-use Rattle.lists.proofs.Laws.{by-cases, length-table, get-table, length-first, get-first, key-at, word-at}
+use Rattle.lists.proofs.Laws.{by-cases, answered-gives, gave-number, gave-value, length-table, get-table, length-first, get-first, key-at, word-at}
 use Rattle.flash.specs.Medium.{views}
 use Rattle.state.specs.declared.State.{State}
 use Rattle.state.specs.State.{Pending, idle, append, commit, collect, format, flush, unnamed, Held, held, wasErased, pendingOf, recordsOf, meaning}
@@ -35,20 +36,6 @@ use Rattle.journal.proofs.Chain.{moves, answers-meanwhile, answers-fini
 
 -- ---- whatever the answers are
 
--- format's answer where the definition begins
-module _ (r : Begun) (h : Held) (e : begun.formattedOf r ≡ begun.Formatted.ready h) where
-  format-number : r .number ≡ 0
-  unfolding begun.toldOf
-  format-number =
-      by-cases (eqb (r .number) 0) (λ q. eqb-true (r .number) 0 q)
-      (λ q. let y = rw q at e in let z : _≡_ {A = ℕ} 0 1 = cc in absurd (omega arith))
-
-  format-state : meaning (r .state) ≡ h
-  unfolding begun.toldOf
-  format-state =
-      by-cases (eqb (r .number) 0) (λ q. let y = rw q at e in cc)
-      (λ q. let y = rw q at e in let z : _≡_ {A = ℕ} 0 1 = cc in absurd (omega arith))
-
 module _ (m : List ℕ) (bytes : Bytes m) (F : Finished m) where
   abbrev worldAt : ℕ → World
   worldAt n = stepsOn n (world m (some (F .state)) fresh)
@@ -65,10 +52,10 @@ module _ (m : List ℕ) (bytes : Bytes m) (F : Finished m) where
   way : (n : ℕ) (x : Machine) → Formatted m n x → n ≤ length m / 4096 → Way n x
   unfolding stepsOn meant
   way n x (Formatted.begun r p) h =
-      let e : begun.formattedOf r ≡ begun.Formatted.ready (F .state) = p ∙ ap begun.asFormatted (F .begun) in
+      let e = p ∙ F .begun in
       record {
-        under-way = Formatting.begun m r fresh bytes p (format-number r (F .state) e);
-        is = ap (λ (s : Held). world m (some s) fresh) (format-state r (F .state) e);
+        under-way = Formatting.begun m r fresh bytes p (gave-number (r .number) (meaning (r .state)) (F .state) e);
+        is = ap (λ (s : Held). world m (some s) fresh) (gave-value (r .number) (meaning (r .state)) (F .state) e);
       }
   way n x (Formatted.step k now after b b′ s r G p) h =
       let W = way k (machine now (some s) b) G (omega arith) in
@@ -200,30 +187,30 @@ standing weak h G =
     record { is = e; weak = weak; guard = subst (Guard weak) (sym e) G }
 
 -- a step that is not refused has an answer
-record Answered (m : List ℕ) (s : State) (t : Step) : Type 0 where
+record Answered (m : List ℕ) (s : State) (t : Answer Step) : Type 0 where
   pub answer : Stepped
   pub weak : Weak
   pub guard : Guard weak (meaning (answer .state))
   pub meets : outcome answer (mediumAfter m t) ≡ performed m s t
 
-answered : (m : List ℕ) (s : State) (t : Step) (weak : Weak) → Careful weak t → ((k : ℕ) → t ≡ Step.refused k → ⊥) → Answered m s t
+answered : (m : List ℕ) (s : State) (t : Answer Step) (weak : Weak) → Careful weak t → ((k : ℕ) → t ≡ refused k → ⊥) → Answered m s t
 unfolding performed done doneOf touchedBy Careful
-answered m s (Step.refused n) weak C f = absurd (f n refl)
-answered m s (Step.program p pg h finished) weak C f =
+answered m s (refused n) weak C f = absurd (f n refl)
+answered m s (gives (Step.program p pg h finished)) weak C f =
     let S = standing weak h (C .1) in
     record {
       answer = pageDone p finished (stateOf h);
       weak = S .weak;
       guard = S .guard;
-      meets = ap (λ (x : Held). record { done = some (page p finished x); medium = mediumAfter m (Step.program p pg h finished) }) (S .is);
+      meets = ap (λ (x : Held). record { done = some (page p finished x); medium = mediumAfter m (gives (Step.program p pg h finished)) }) (S .is);
     }
-answered m s (Step.erase b h finished) weak C f =
+answered m s (gives (Step.erase b h finished)) weak C f =
     let S = standing (afterErase b false weak) h C in
     record {
       answer = record { number = 0; touched = 2; finished = finished; at = b; state = stateOf h };
       weak = S .weak;
       guard = S .guard;
-      meets = ap (λ (x : Held). record { done = some (block b finished x); medium = mediumAfter m (Step.erase b h finished) }) (S .is);
+      meets = ap (λ (x : Held). record { done = some (block b finished x); medium = mediumAfter m (gives (Step.erase b h finished)) }) (S .is);
     }
 
 module _ (m : List ℕ) (bytes : Bytes m) (F : Finished m) where
@@ -236,7 +223,6 @@ module _ (m : List ℕ) (bytes : Bytes m) (F : Finished m) where
     pub formatted : Formatted m n (machine now (some state) buffer)
 
   begun-there : There 0
-  unfolding begun.toldOf
   begun-there =
       let S = standing (λ b. true) (F .state) (begun-guard (λ b. true) (length m) (F .state) (F .begun)) in
       record {
@@ -247,11 +233,11 @@ module _ (m : List ℕ) (bytes : Bytes m) (F : Finished m) where
         guard = S .guard;
         formatted =
             Formatted.begun (record { number = 0; state = stateOf (F .state) })
-            (ap begun.Formatted.ready (S .is) ∙ sym (ap begun.asFormatted (F .begun)));
+            (answered-gives 0 (meaning (stateOf (F .state))) refl ∙ ap gives (S .is) ∙ sym (F .begun));
       }
 
   due-accepted : (n : ℕ) (now b : List ℕ) (s : State) → worldOf (machine now (some s) b) ≡ worldAt m bytes F n → n ≤ length m / 4096
-      → (k : ℕ) → stepOf (length now) (views now) (meaning s) b ≡ Step.refused k → ⊥
+      → (k : ℕ) → stepOf (length now) (views now) (meaning s) b ≡ refused k → ⊥
   unfolding stepDue withState meant
   due-accepted n now b s e h k q = F .accepted n k h (sym (ap stepDue e) ∙ q)
 

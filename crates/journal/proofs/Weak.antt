@@ -7,6 +7,7 @@ use Prim.Native.Nat.{ℕ, _/_}
 use native.Mathlib.Omega.{arith}
 use lib.ListN.{length}
 use borrow.Author.Tests.{eq-eqb}
+use Rattle.lists.specs.Needs.{Answer, refused, gives}
 use Rattle.flash.specs.Medium.{views}
 use Rattle.state.specs.declared.State.{State}
 use Rattle.state.specs.State.{Held, meaning}
@@ -29,7 +30,7 @@ moves-kept weak x y e v K = subst (λ (w : World). Kept (weakAfter (worldOf x) e
 
 format-kept : (weak : Weak) (x : Machine) (F : Formatting x) → Kept (weakInFormat weak x F) (meant (x .state))
 unfolding weakInFormat meant Kept
-format-kept weak x (Formatting.begun m r bs b f q) = begun-guard weak (length m) (meaning (r .state)) (formats m (formatOf (length m)) r f q)
+format-kept weak x (Formatting.begun m r bs b f q) = begun-guard weak (length m) (meaning (r .state)) (formats m r f q)
 format-kept weak x (Formatting.next z y e F v k) = moves-kept (weakInFormat weak z F) z y e v (format-kept weak z F)
 
 run-kept : (weak : Weak) (x : Machine) (h : History) (R : Run x h) → Kept (weakIn weak x h R) (meant (x .state))
@@ -44,11 +45,11 @@ kept-guard weak (some t) s e K = let q : t ≡ s = cc in rw q at K
 
 -- ---- a step that tells of a page is one that programs it
 
-page-careful : (weak : Weak) (s : State) (t : Step) (p : ℕ) (f : Bool) (h : Held) → page p f h ≡ done s t → Careful weak t → weak (p / 16) ≡ false
+page-careful : (weak : Weak) (s : State) (t : Answer Step) (p : ℕ) (f : Bool) (h : Held) → page p f h ≡ done s t → Careful weak t → weak (p / 16) ≡ false
 unfolding done Careful
-page-careful weak s (Step.refused n) p f h e C = let z : _≡_ {A = ℕ} 0 1 = cc in absurd (omega arith)
-page-careful weak s (Step.program q pg a g) p f h e C = let z : p ≡ q = cc in rw z (C .0)
-page-careful weak s (Step.erase b a g) p f h e C = let z : _≡_ {A = ℕ} 0 1 = cc in absurd (omega arith)
+page-careful weak s (refused n) p f h e C = let z : _≡_ {A = ℕ} 0 1 = cc in absurd (omega arith)
+page-careful weak s (gives (Step.program q pg a g)) p f h e C = let z : p ≡ q = cc in rw z (C .0)
+page-careful weak s (gives (Step.erase b a g)) p f h e C = let z : _≡_ {A = ℕ} 0 1 = cc in absurd (omega arith)
 
 told-page : (r : Stepped) → r .number ≡ 0 → r .touched ≡ 1 → doneOf r ≡ some (page (r .at) (r .finished) (meaning (r .state)))
 unfolding doneOf touchedBy

@@ -2,3 +2,4 @@ pub mod Run
 pub mod Started
 pub mod Weak
 pub mod Wanted
+pub mod Word

@@ -6,12 +6,12 @@ use Prim.Native.Nat.{ℕ, zero, suc, _+_, _-_, _≤_, _<_}
 use native.Mathlib.Omega.{arith}
 use native.Mathlib.Numerals.{add-one}
 use native.Mathlib.Decide.{decLt}
-use borrow.Author.Tests.{leb-true, not-true, not-false}
-use lib.Dec.{leb}
+use borrow.Author.Tests.{leb-true, eqb-true, eq-eqb, ne-eqb, not-true, not-false}
+use lib.Dec.{leb, eqb}
 use lib.ListN.{length, getD, take, drop, replicate, length-append, length-take, length-replicate, getD-replicate, drop-of-length-le, List·getD-append, List·getD-eq-default}
 use lib.Seq.{drop-cons, ext-getD, getD-drop, getD-take, getD-append-add, getD-append-seam}
 use Rattle.lists.specs.declared.Cell.{Cell}
-use Rattle.lists.specs.Needs.{Need, need, checked, refusalOf}
+use Rattle.lists.specs.Needs.{Answer, refused, gives, answered, andThen, Need, need, under, answerOr, refusalOf}
 use Rattle.lists.specs.Lists.{keep, all, every, allBelow, oneIf, countBelow, table, first, Below}
 use Rattle.lists.specs.Cells.{cell, pairs, keysOf, wordsOf}
 
@@ -120,6 +120,46 @@ unfolding keep opposite
 keep-none f [] p = refl
 keep-none f (x ∷ xs) p = rw (not-true (f x) (all-head (opposite f) x xs p), keep-none f xs (all-tail (opposite f) x xs p))
 
+-- ---- answers
+
+-- a refusal has its number alone
+pub same-refusal : {A : Type 0} (a b : ℕ) → _≡_ {A = Answer A} (refused a) (refused b) → a ≡ b
+same-refusal a b e = cc
+
+pub same-given : {A : Type 0} {x y : A} → gives x ≡ gives y → x ≡ y
+same-given e = cc
+
+-- what is given is not refused
+pub given-refused : {A P : Type 0} (x : A) (n : ℕ) → gives x ≡ refused n → P
+given-refused x n e = let z : _≡_ {A = ℕ} 0 1 = cc in absurd (omega arith)
+
+-- the code's answer of a number n and a value x
+module _ {A : Type 0} (n : ℕ) (x : A) where
+  pub answered-refused : (n ≡ 0 → ⊥) → answered n x ≡ refused n
+  unfolding answered
+  answered-refused h = rw (ne-eqb n 0 h)
+
+  pub answered-gives : n ≡ 0 → answered n x ≡ gives x
+  unfolding answered
+  answered-gives h = rw (eq-eqb n 0 h)
+
+  pub answered-then : {B : Type 0} (f : A → B) → answered n (f x) ≡ andThen (answered n x) (λ y. gives (f y))
+  unfolding answered andThen
+  answered-then f = by-cases (eqb n 0) (λ q. rw q) (λ q. rw q)
+
+  -- it says what was given
+  pub gave-number : (y : A) → answered n x ≡ gives y → n ≡ 0
+  unfolding answered
+  gave-number y e = by-cases (eqb n 0) (λ q. eqb-true n 0 q) (λ q. given-refused y n (sym (rw q at e)))
+
+  pub gave-value : (y : A) → answered n x ≡ gives y → x ≡ y
+  gave-value y e = same-given (sym (answered-gives (gave-number y e)) ∙ e)
+
+  -- or which refusal
+  pub refused-with : (k : ℕ) → answered n x ≡ refused k → eqb n 0 ≡ false
+  unfolding answered
+  refused-with k e = by-cases (eqb n 0) (λ q. given-refused x k (rw q at e)) (λ q. q)
+
 -- ---- conditions in order
 
 -- what a list of conditions tests
@@ -128,35 +168,34 @@ tests [] = []
 tests (c ∷ cs) = c .holds ∷ tests cs
 
 -- refused with the number of one of them, or passed with every condition met
-pub checked-cases : {A : Type 0} (P : A → Type 0) (refused : ℕ → A) (cs : List Need) (a : A) → ((n : ℕ) → P (refused n)) → (every (tests cs) ≡ true → P a) → P (checked refused cs a)
-unfolding checked tests every
-checked-cases P refused [] a f g = g refl
-checked-cases P refused (c ∷ cs) a f g =
-    by-cases (c .holds) (λ e. rw e (checked-cases P refused cs a f (λ h. g (and-both e h)))) (λ e. rw e (f (c .number)))
+pub checked-cases : {A : Type 0} (P : Answer A → Type 0) (cs : List Need) (a : Answer A) → ((n : ℕ) → P (refused n)) → (every (tests cs) ≡ true → P a) → P (under cs a)
+unfolding under tests every
+checked-cases P [] a f g = g refl
+checked-cases P (c ∷ cs) a f g = by-cases (c .holds) (λ e. rw e (checked-cases P cs a f (λ h. g (and-both e h)))) (λ e. rw e (f (c .number)))
 
-pub checked-pass : {A : Type 0} (refused : ℕ → A) (cs : List Need) (a : A) → every (tests cs) ≡ true → checked refused cs a ≡ a
-unfolding checked tests every
-checked-pass refused [] a h = refl
-checked-pass refused (c ∷ cs) a h = rw (and-l (c .holds) (every (tests cs)) h) (checked-pass refused cs a (and-r (c .holds) (every (tests cs)) h))
+pub checked-pass : {A : Type 0} (cs : List Need) (a : Answer A) → every (tests cs) ≡ true → under cs a ≡ a
+unfolding under tests every
+checked-pass [] a h = refl
+checked-pass (c ∷ cs) a h = rw (and-l (c .holds) (every (tests cs)) h) (checked-pass cs a (and-r (c .holds) (every (tests cs)) h))
 
 -- conditions of two lists, one after the other
-pub checked-join : {A : Type 0} (refused : ℕ → A) (cs ds : List Need) (a : A) → checked refused (cs ++ ds) a ≡ checked refused cs (checked refused ds a)
-unfolding checked
-checked-join refused [] ds a = refl
-checked-join refused (c ∷ cs) ds a = by-cases (c .holds) (λ e. rw e (checked-join refused cs ds a)) (λ e. rw e)
+pub checked-join : {A : Type 0} (cs ds : List Need) (a : Answer A) → under (cs ++ ds) a ≡ under cs (under ds a)
+unfolding under
+checked-join [] ds a = refl
+checked-join (c ∷ cs) ds a = by-cases (c .holds) (λ e. rw e (checked-join cs ds a)) (λ e. rw e)
 
 -- the number of the first that does not hold: r is what the code's test of the first condition gave
 module _ (r b : Bool) (n : ℕ) (cs : List Need) (e : r ≡ b) where
   pub number-stop : not r ≡ true → n ≡ refusalOf (need n b ∷ cs)
-  unfolding refusalOf checked
+  unfolding refusalOf answerOr under
   number-stop h = rw (← e, not-true r h)
 
   pub number-pass : (x : ℕ) → not r ≡ false → x ≡ refusalOf cs → x ≡ refusalOf (need n b ∷ cs)
-  unfolding refusalOf checked
+  unfolding refusalOf answerOr under
   number-pass x h q = rw (← e, not-false r h) q
 
 pub number-none : 0 ≡ refusalOf []
-unfolding refusalOf checked
+unfolding refusalOf answerOr under
 number-none = refl
 
 pub ruleset chain = (number-stop, number-pass, number-none)
@@ -168,7 +207,7 @@ numbered (c ∷ cs) = leb 1 (c .number) && numbered cs
 
 -- without a number all conditions hold
 pub number-clear : (cs : List Need) → numbered cs ≡ true → refusalOf cs ≡ 0 → every (tests cs) ≡ true
-unfolding numbered refusalOf checked tests every
+unfolding numbered refusalOf answerOr under tests every
 number-clear [] z e = refl
 number-clear (c ∷ cs) z e =
     by-cases (c .holds)
@@ -176,19 +215,28 @@ number-clear (c ∷ cs) z e =
     (λ h. let k = leb-true 1 (c .number) (and-l (leb 1 (c .number)) (numbered cs) z) in let y : c .number ≡ 0 = rw h at e in absurd (omega arith))
 
 -- some conditions refuse with their number
-pub number-refuses : {A : Type 0} (refused : ℕ → A) (cs : List Need) (a : A) (g : ℕ) → g ≡ refusalOf cs → (g ≡ 0 → ⊥) → refused g ≡ checked refused cs a
-unfolding refusalOf checked
-number-refuses refused [] a g e h = absurd (h e)
-number-refuses refused (c ∷ cs) a g e h =
-    by-cases (c .holds) (λ q. rw q (number-refuses refused cs a g (rw q at e) h)) (λ q. let y : g ≡ c .number = rw q at e in rw (q, y))
+pub number-refuses : {A : Type 0} (cs : List Need) (a : Answer A) (g : ℕ) → g ≡ refusalOf cs → (g ≡ 0 → ⊥) → refused g ≡ under cs a
+unfolding refusalOf answerOr under
+number-refuses [] a g e h = absurd (h e)
+number-refuses (c ∷ cs) a g e h =
+    by-cases (c .holds) (λ q. rw q (number-refuses cs a g (rw q at e) h)) (λ q. let y : g ≡ c .number = rw q at e in rw (q, y))
 
 -- and whatever follows them
-pub checked-stop : {A : Type 0} (refused : ℕ → A) (cs ds : List Need) (a : A) (g : ℕ) → g ≡ refusalOf cs → (g ≡ 0 → ⊥) → refused g ≡ checked refused (cs ++ ds) a
-checked-stop refused cs ds a g e h = number-refuses refused cs (checked refused ds a) g e h ∙ sym (checked-join refused cs ds a)
+pub checked-stop : {A : Type 0} (cs ds : List Need) (a : Answer A) (g : ℕ) → g ≡ refusalOf cs → (g ≡ 0 → ⊥) → refused g ≡ under (cs ++ ds) a
+checked-stop cs ds a g e h = number-refuses cs (under ds a) g e h ∙ sym (checked-join cs ds a)
 
 -- some conditions that hold, and those that follow them
-pub checked-on : {A : Type 0} (refused : ℕ → A) (cs ds : List Need) (a : A) (g : ℕ) → numbered cs ≡ true → g ≡ refusalOf cs → g ≡ 0 → checked refused (cs ++ ds) a ≡ checked refused ds a
-checked-on refused cs ds a g z e h = checked-join refused cs ds a ∙ checked-pass refused cs (checked refused ds a) (number-clear cs z (sym e ∙ h))
+pub checked-on : {A : Type 0} (cs ds : List Need) (a : Answer A) (g : ℕ) → numbered cs ≡ true → g ≡ refusalOf cs → g ≡ 0 → under (cs ++ ds) a ≡ under ds a
+checked-on cs ds a g z e h = checked-join cs ds a ∙ checked-pass cs (under ds a) (number-clear cs z (sym e ∙ h))
+
+-- the same of the number alone
+pub refusal-stop : (cs ds : List Need) (g : ℕ) → g ≡ refusalOf cs → (g ≡ 0 → ⊥) → g ≡ refusalOf (cs ++ ds)
+unfolding refusalOf answerOr
+refusal-stop cs ds g e h = ap (answerOr (λ n. n)) (checked-stop cs ds (gives 0) g e h)
+
+pub refusal-on : (cs ds : List Need) (g : ℕ) → numbered cs ≡ true → g ≡ refusalOf cs → g ≡ 0 → refusalOf (cs ++ ds) ≡ refusalOf ds
+unfolding refusalOf
+refusal-on cs ds g z e h = ap (answerOr (λ n. n)) (checked-on cs ds (gives 0) g z e h)
 
 -- the condition at place i of some that all hold
 pub every-at : (i : ℕ) (bs : List Bool) → every bs ≡ true → getD bs i true ≡ true
@@ -364,6 +412,9 @@ module _ (ks vs : List ℕ) where
   words-pairs =
       ext-getD 0 _ vs (length-words (pairs (length vs) ks vs) ∙ length-pairs (length vs) ks vs)
       (λ i h. word-at (pairs (length vs) ks vs) i ∙ ap (λ (x : Cell). x .val) (get-pairs (length vs) ks vs i (omega (arith, length-words (pairs (length vs) ks vs), length-pairs (length vs) ks vs))))
+
+pub words-filled : (ks ws : List ℕ) → length ws ≡ length ks → wordsOf (pairs (length ks) ks ws) ≡ ws
+words-filled ks ws e = ap (λ (n : ℕ). wordsOf (pairs n ks ws)) (sym e) ∙ words-pairs ks ws
 
 -- ---- numbers below a bound
 

@@ -6,6 +6,7 @@ use Rattle.lists.specs.declared.Cell.{Cell}
 use Rattle.lists.specs.declared.Cells.{Cells}
 use Rattle.lists.specs.Lists.{table}
 
+-- a number under a key
 abbrev pub cell : ℕ → ℕ → Cell
 cell k a = record { key = k; val = a }
 
@@ -29,11 +30,12 @@ pairs n ks vs = table n (λ i. cell (getD ks i 0) (getD vs i 0))
 abbrev pub listed : Cells → List Cell
 listed c = pairs (c .count) (c .keys) (c .vals)
 
--- the keys of a list, and its words
+-- the keys of a list
 unfoldable pub keysOf : List Cell → List ℕ
 keysOf [] = []
 keysOf (x ∷ xs) = x .key ∷ keysOf xs
 
+-- the words of a list
 unfoldable pub wordsOf : List Cell → List ℕ
 wordsOf [] = []
 wordsOf (x ∷ xs) = x .val ∷ wordsOf xs

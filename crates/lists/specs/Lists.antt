@@ -35,6 +35,7 @@ unfoldable pub allBelow : ℕ → (ℕ → Bool) → Bool
 allBelow zero f = true
 allBelow (suc n) f = allBelow n f && f n
 
+-- 1 where something holds, else 0
 unfoldable pub oneIf : Bool → ℕ
 oneIf true = 1
 oneIf false = 0
@@ -53,9 +54,10 @@ table (suc n) f = table n f ++ (f n ∷ [])
 unfoldable pub first : {A : Type 0} → A → ℕ → List A → List A
 first d n s = take n s ++ replicate (n - length s) d
 
--- each number of a list is below n; bytes are below 256
+-- each number of a list is below n
 pub record Below (n : ℕ) (xs : List ℕ) : Type 0 where
   pub each : (i : ℕ) → getD xs i 0 < n
 
+-- each number of a list is a byte
 abbrev pub Bytes : List ℕ → Type 0
 Bytes xs = Below 256 xs

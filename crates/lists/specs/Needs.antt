@@ -26,11 +26,20 @@ pub record Need : Type 0 where
 abbrev pub need : ℕ → Bool → Need
 need n b = record { number = n; holds = b }
 
--- the answer, or the refusal with the number of the first condition that does not hold
-unfoldable pub checked : {A : Type 0} → (ℕ → A) → List Need → A → A
-checked refuse [] answer = answer
-checked refuse (c ∷ cs) answer = cond (c .holds) (checked refuse cs answer) (refuse (c .number))
+-- an answer under conditions: refused with the number of the first that does not hold
+unfoldable pub under : {A : Type 0} → List Need → Answer A → Answer A
+under [] answer = answer
+under (c ∷ cs) answer = cond (c .holds) (under cs answer) (refused (c .number))
+
+-- what a call gives where all its conditions hold
+abbrev pub checked : {A : Type 0} → List Need → A → Answer A
+checked cs x = under cs (gives x)
+
+-- what an answer gives, or what stands in its place where it is refused with a number
+unfoldable pub answerOr : {A : Type 0} → (ℕ → A) → Answer A → A
+answerOr f (refused n) = f n
+answerOr f (gives x) = x
 
 -- the number of the first condition that does not hold, 0 where all do
 unfoldable pub refusalOf : List Need → ℕ
-refusalOf cs = checked (λ n. n) cs 0
+refusalOf cs = answerOr (λ n. n) (checked cs 0)

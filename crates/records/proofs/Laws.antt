@@ -10,32 +10,32 @@ use lib.Dec.{leb, ltb}
 use borrow.Author.Tests.{lt-leb, le-leb, not-true, not-false}
 use Rattle.records.specs.declared.Record.{Record}
 use Rattle.records.specs.declared.Notes.{Notes}
-use Rattle.records.specs.Records.{risesOn, notedPast, notedAt, noted, notedAll, unnoted}
+use Rattle.records.specs.Records.{stillRises, notedPast, notedAt, noted, notedAll, unnoted}
 
-pub not-rising : (b : Bool) (least v : ℕ) → not b ≡ true → false ≡ risesOn b least v
-unfolding risesOn
+pub not-rising : (b : Bool) (least v : ℕ) → not b ≡ true → false ≡ stillRises b least v
+unfolding stillRises
 not-rising b least v e = ap (λ (t : Bool). t && (leb least v && ltb v 32768)) (sym (not-true b e))
 
 and-false : (b : Bool) → false ≡ b && false
 and-false true = refl
 and-false false = refl
 
-pub below-least : (b : Bool) (least v : ℕ) → v < least → false ≡ risesOn b least v
-unfolding risesOn
+pub below-least : (b : Bool) (least v : ℕ) → v < least → false ≡ stillRises b least v
+unfolding stillRises
 below-least b least v h = and-false b ∙ ap (λ (t : Bool). b && (t && ltb v 32768)) (sym (lt-leb _ _ h))
 
-pub goes-on : (b : Bool) (least v : ℕ) → not b ≡ false → least ≤ v → ltb v 32768 ≡ risesOn b least v
-unfolding risesOn
+pub goes-on : (b : Bool) (least v : ℕ) → not b ≡ false → least ≤ v → ltb v 32768 ≡ stillRises b least v
+unfolding stillRises
 goes-on b least v e h = ap (λ (t : Bool). t && ltb v 32768) (sym (le-leb _ _ h)) ∙ ap (λ (t : Bool). t && (leb least v && ltb v 32768)) (sym (not-false b e))
 
-pub noted-past : (n : Notes) (r : Record) (b : Bool) → b ≡ risesOn (n .rises) (n .least) (r .valve) → 192 ≤ n .count
+pub noted-past : (n : Notes) (r : Record) (b : Bool) → b ≡ stillRises (n .rises) (n .least) (r .valve) → 192 ≤ n .count
     → _≡_ {A = Notes} (record { rises = b; least = r .valve + 1; count = 193; keys = n .keys; vals = n .vals }) (noted n r)
 unfolding noted notedPast
 noted-past n r b e h =
     ap (λ (t : Bool). record { rises = t; least = r .valve + 1; count = 193; keys = n .keys; vals = n .vals }) e
     ∙ ap (λ (t : Bool). cond t (notedPast n r) (notedAt n r)) (sym (le-leb _ _ h))
 
-pub noted-at : (n : Notes) (r : Record) (b : Bool) → b ≡ risesOn (n .rises) (n .least) (r .valve) → n .count < 192
+pub noted-at : (n : Notes) (r : Record) (b : Bool) → b ≡ stillRises (n .rises) (n .least) (r .valve) → n .count < 192
     → _≡_ {A = Notes} (record { rises = b; least = r .valve + 1; count = n .count + 1; keys = set (n .keys) (n .count) (r .valve); vals = set (n .vals) (n .count) (r .word) }) (noted n r)
 unfolding noted notedAt
 noted-at n r b e h =

@@ -16,7 +16,7 @@ use Rattle.index.specs.Index.{risingFrom, rising}
 use Rattle.index.proofs.Pairs.{pairs-snoc}
 use Rattle.records.specs.declared.Record.{Record}
 use Rattle.records.specs.declared.Notes.{Notes}
-use Rattle.records.specs.Records.{risesOn, notedPast, notedAt, noted, notedAll, unnoted, wantedSettings}
+use Rattle.records.specs.Records.{stillRises, notedPast, notedAt, noted, notedAll, unnoted, wantedSettings}
 
 -- ---- one record more
 
@@ -34,7 +34,7 @@ module _ (n : Notes) (r : Record) where
   either f p q =
       by-cases (leb 192 (n .count)) (λ b. ap f (noted-past (leb-true 192 (n .count) b)) ∙ p) (λ b. ap f (noted-at (leb-false 192 (n .count) b)) ∙ q)
 
-  noted-rises : noted n r .rises ≡ risesOn (n .rises) (n .least) (r .valve)
+  noted-rises : noted n r .rises ≡ stillRises (n .rises) (n .least) (r .valve)
   unfolding notedPast notedAt
   noted-rises = either (λ (q : Notes). q .rises) refl refl
 
@@ -61,12 +61,12 @@ abbrev pub inRange : Cell → Bool
 inRange x = ltb (x .key) 32768
 
 rises-all : (n : Notes) (rs : List Record) → notedAll n rs .rises ≡ n .rises && (risingFrom (n .least) (wantedSettings rs) && all inRange (wantedSettings rs))
-unfolding notedAll risingFrom all wantedSettings risesOn
+unfolding notedAll risingFrom all wantedSettings stillRises
 rises-all n [] = and-true (n .rises)
 rises-all n (r ∷ rs) =
     rises-all (noted n r) rs
     ∙ ap (λ (t : Bool). t && (risingFrom (noted n r .least) (wantedSettings rs) && all inRange (wantedSettings rs))) (noted-rises n r)
-    ∙ ap (λ (k : ℕ). risesOn (n .rises) (n .least) (r .valve) && (risingFrom k (wantedSettings rs) && all inRange (wantedSettings rs))) (noted-least n r)
+    ∙ ap (λ (k : ℕ). stillRises (n .rises) (n .least) (r .valve) && (risingFrom k (wantedSettings rs) && all inRange (wantedSettings rs))) (noted-least n r)
     ∙ beside (n .rises) (leb (n .least) (r .valve)) (ltb (r .valve) 32768) (risingFrom (suc (r .valve)) (wantedSettings rs)) (all inRange (wantedSettings rs))
 
 pub notes-rise : (rs : List Record) → notedAll unnoted rs .rises ≡ (rising (wantedSettings rs) && all inRange (wantedSettings rs))

@@ -19,27 +19,31 @@ wantedSettings (r ∷ rs) = cell (r .valve) (r .word) ∷ wantedSettings rs
 unfoldable pub unnoted : Notes
 unnoted = record { rises = true; least = 0; count = 0; keys = replicate 192 0; vals = replicate 192 0 }
 
--- valves that rise so far, below 32768, do so with one more, of which `least` is the least that may come
-unfoldable pub risesOn : Bool → ℕ → ℕ → Bool
-risesOn b least valve = b && (leb least valve && ltb valve 32768)
+-- The valves so far rise strictly and are below 32768 (b), and so with one more; `least` is the least valve that may come: one above the last.
+unfoldable pub stillRises : Bool → ℕ → ℕ → Bool
+stillRises b least valve = b && (leb least valve && ltb valve 32768)
 
--- one record more, of which there were 192 or more already; and where there were fewer
+-- One record more where 192 are noted already: its valve is judged, and the count, 193 from now on, tells that there are too many; the record
+-- itself is not kept.
 unfoldable pub notedPast : Notes → Record → Notes
-notedPast n r = record { rises = risesOn (n .rises) (n .least) (r .valve); least = r .valve + 1; count = 193; keys = n .keys; vals = n .vals }
+notedPast n r = record { rises = stillRises (n .rises) (n .least) (r .valve); least = r .valve + 1; count = 193; keys = n .keys; vals = n .vals }
 
+-- one record more where there were fewer: it is kept as well
 unfoldable pub notedAt : Notes → Record → Notes
 notedAt n r =
     record {
-      rises = risesOn (n .rises) (n .least) (r .valve);
+      rises = stillRises (n .rises) (n .least) (r .valve);
       least = r .valve + 1;
       count = n .count + 1;
       keys = set (n .keys) (n .count) (r .valve);
       vals = set (n .vals) (n .count) (r .word);
     }
 
+-- one record more
 unfoldable pub noted : Notes → Record → Notes
 noted n r = cond (leb 192 (n .count)) (notedPast n r) (notedAt n r)
 
+-- records in order
 unfoldable pub notedAll : Notes → List Record → Notes
 notedAll n [] = n
 notedAll n (r ∷ rs) = notedAll (noted n r) rs

@@ -1,6 +1,6 @@
 // A lent list of records, each a valve and its word, walked once; what the walk notes is a list of cells by value.
 ghost use mathlib.Core.Path.{_≡_};
-ghost use Rattle.records.specs.Records.{unnoted, risesOn, noted, notedAll};
+ghost use Rattle.records.specs.Records.{unnoted, stillRises, noted, notedAll};
 
 // A valve and its word.
 #[repr(C)]
@@ -34,9 +34,9 @@ fn start() -> Notes
     }
 }
 
-// Whether valves that rise so far do so with one more.
-fn rises_on(rises: bool, least: u64, valve: u16) -> bool
-    ensures { λ r. ⌜ r ≡ risesOn rises least valve ⌝ }
+// Whether the valves so far rise strictly below 32768, and still do with one more.
+fn still_rises(rises: bool, least: u64, valve: u16) -> bool
+    ensures { λ r. ⌜ r ≡ stillRises rises least valve ⌝ }
 {
     if !rises {
         return false;
@@ -52,7 +52,7 @@ fn note(n: Notes, r: Record) -> Notes
     ensures { λ q. ⌜ q ≡ noted n r ⌝ }
 {
     let mut q = n;
-    q.rises = rises_on(n.rises, n.least, r.valve);
+    q.rises = still_rises(n.rises, n.least, r.valve);
     q.least = r.valve as u64 + 1;
     let at = n.count;
     if 192 <= at {

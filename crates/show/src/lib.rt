@@ -2,6 +2,7 @@
 ghost use mathlib.Core.Path.{_≡_};
 ghost use Prim.Native.Nat.{_≤_};
 ghost use lib.ListN.{length};
+ghost use Rattle.show.specs.Places.{mostChanges};
 use lists::Cell;
 use lists::Cells;
 use lists::Found;
@@ -46,19 +47,19 @@ const PLACES: usize = BYTES / 256 * 24;
 
 // Such places: for keys, words and the numbers of groups.
 fn no_keys() -> [u16; PLACES]
-    ensures { λ r. ⌜ length r ≡ 6144 ⌝ }
+    ensures { λ r. ⌜ length r ≡ mostChanges ⌝ }
 {
     [0; PLACES]
 }
 
 fn no_words() -> [u64; PLACES]
-    ensures { λ r. ⌜ length r ≡ 6144 ⌝ }
+    ensures { λ r. ⌜ length r ≡ mostChanges ⌝ }
 {
     [0; PLACES]
 }
 
 fn no_groups() -> [u32; PLACES]
-    ensures { λ r. ⌜ length r ≡ 6144 ⌝ }
+    ensures { λ r. ⌜ length r ≡ mostChanges ⌝ }
 {
     [0; PLACES]
 }

@@ -1,28 +1,27 @@
 -- Playing a list of calls, as far as it is promised.
-use mathlib.Core.Path.{_≡_, refl}
+use mathlib.Core.Path.{_≡_, refl, sym, _∙_}
 use mathlib.Core.List.{List, []}
 use Prim.Native.Nat.{ℕ, _≤_, _<_}
 use native.Mathlib.Omega.{arith}
 use lib.ListN.{length}
-use lib.Dec.{eqb}
+use borrow.Author.Tests.{eq-eqb}
 use Rattle.lists.specs.Lists.{every}
-use Rattle.lists.specs.Needs.{checked}
-use Rattle.lists.proofs.Laws.{by-cases}
+use Rattle.lists.specs.Needs.{under}
+use Rattle.lists.proofs.Laws.{true-false, same-refusal, answered-refused, refused-with}
 use Rattle.blocks.specs.Blocks.{sizeOk}
 use Rattle.state.specs.State.{meaning}
 use Rattle.calls.specs.Calls.{formatOf}
 use Rattle.begin.specs.declared.Begun.{Begun}
-use Rattle.begin.specs.Begun.{Formatted, toldOf, Formats}
+use Rattle.begin.specs.Begun.{Formats}
 use Rattle.trials.specs.declared.Trial.{Trial}
 use Rattle.trials.specs.Played.{Played}
 
 -- a medium of no bytes cannot be formatted
 pub nothing-formatted : (b : Begun) (t : Trial) → Formats [] b → t .number ≡ b .number → t .number ≡ 1
-unfolding toldOf formatOf checked sizeOk every
+unfolding formatOf under sizeOk every
 nothing-formatted b t f e =
-    by-cases (eqb (b .number) 0)
-    (λ h. let z : Formatted.ready (meaning (b .state)) ≡ Formatted.turnedBack 1 = rw h at f in let y : _≡_ {A = ℕ} 0 1 = cc in absurd (omega arith))
-    (λ h. let z : Formatted.turnedBack (b .number) ≡ Formatted.turnedBack 1 = rw h at f in cc)
+    let q = refused-with (b .number) (meaning (b .state)) 1 f in
+    e ∙ same-refusal (b .number) 1 (sym (answered-refused (b .number) (meaning (b .state)) (λ z. true-false (eq-eqb (b .number) 0 z) q)) ∙ f)
 
 -- after the calls before place i, of which there are none at first
 pub record Playing (m₀ calls : List ℕ) (m : List ℕ) (number i : ℕ) : Type 0 where

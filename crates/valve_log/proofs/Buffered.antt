@@ -6,7 +6,7 @@ use mathlib.Core.List.{List, [], _∷_}
 use Prim.Native.Nat.{ℕ}
 use native.Mathlib.Omega.{arith}
 use Rattle.lists.specs.Lists.{every, valueOr}
-use Rattle.lists.specs.Needs.{need}
+use Rattle.lists.specs.Needs.{Answer, refused, gives, need}
 use Rattle.lists.proofs.Laws.{by-cases, true-false, every-at, tests, checked-cases}
 use Rattle.codec.specs.Codec.{bytesOf, putAt}
 use Rattle.page.specs.Pages.{Page, View}
@@ -45,21 +45,21 @@ fit-making s b p f =
     (λ c. by-cases (inMaking b) (λ q. record { making = q; groups = unfold bufferedIn gathered valueOr in rw (c, q) }) (λ q. true-false (rw (c, q) at f) refl))
 
 module _ (v : List View) (s : Held) (b : List ℕ) (p : ℕ) (pg : Page) (t : Held) (finished : Bool) where
-  abbrev Laid : Step → Type 0
-  Laid st = st ≡ Step.program p pg t finished → pg ≡ groupsPage (s .head .serial) (bufferedIn b)
+  abbrev Laid : Answer Step → Type 0
+  Laid st = st ≡ gives (Step.program p pg t finished) → pg ≡ groupsPage (s .head .serial) (bufferedIn b)
 
-  refused-laid : (n : ℕ) → Laid (Step.refused n)
+  refused-laid : (n : ℕ) → Laid (refused n)
   refused-laid n e = let z : _≡_ {A = ℕ} 0 1 = cc in absurd (omega arith)
 
-  erase-laid : (c : ℕ) (r : Held) (f : Bool) → Laid (Step.erase c r f)
+  erase-laid : (c : ℕ) (r : Held) (f : Bool) → Laid (gives (Step.erase c r f))
   erase-laid c r f e = let z : _≡_ {A = ℕ} 0 1 = cc in absurd (omega arith)
 
-  program-laid : (q : ℕ) (r : Held) (f : Bool) → Laid (Step.program q (groupsPage (s .head .serial) (bufferedIn b)) r f)
+  program-laid : (q : ℕ) (r : Held) (f : Bool) → Laid (gives (Step.program q (groupsPage (s .head .serial) (bufferedIn b)) r f))
   program-laid q r f e = cc
 
   flush-laid : Laid (flushStep v s (bufferedIn b))
   unfolding flushStep programming
-  flush-laid = checked-cases Laid Step.refused _ _ refused-laid (λ e. program-laid (pageDue v (s .head)) (flushed s (bufferedIn b) (pageDue v (s .head))) true)
+  flush-laid = checked-cases Laid _ _ refused-laid (λ e. program-laid (pageDue v (s .head)) (flushed s (bufferedIn b) (pageDue v (s .head))) true)
 
   due-laid : (q : Pending) → q ≡ flush → Laid (due v s (bufferedIn b) q)
   unfolding due
@@ -68,9 +68,10 @@ module _ (v : List View) (s : Held) (b : List ℕ) (p : ℕ) (pg : Page) (t : He
 pub programs-as-lent : ProgramsAsLent
 unfolding ProgramsAsLent stepOf
 programs-as-lent n v s b p pg t f bytes e =
-    checked-cases (λ (st : Step). st ≡ Step.program p pg t f → encode pg ≡ withCheck (putAt b 8 (bytesOf 8 (s .head .serial)))) Step.refused (need 1 (sizeOk n) ∷ need 7 (fitWith v s b) ∷ need 9 (not (isIdle (s .pending))) ∷ [])
+    checked-cases (λ (st : Answer Step). st ≡ gives (Step.program p pg t f) → encode pg ≡ withCheck (putAt b 8 (bytesOf 8 (s .head .serial)))) (need 1 (sizeOk n) ∷ need 7 (fitWith v s b) ∷ need 9 (not (isIdle (s .pending))) ∷ [])
     (erasedFirst v s (due v s (bufferedIn b) (s .pending))) (λ k q. let z : _≡_ {A = ℕ} 0 1 = cc in absurd (omega arith))
-    (λ c q. same (lent (unfold tests in every-at 1 _ c)) (first-cases (Laid v s b p pg t f) v s (due v s (bufferedIn b) (s .pending)) (λ r. erase-laid v s b p pg t f _ _ _) (λ r. due-laid v s b p pg t f (s .pending) e) q))
+    (λ c q. same (lent (unfold tests in every-at 1 _ c)) (first-cases (Laid v s b p pg t f) v s
+    (due v s (bufferedIn b) (s .pending)) (λ r. erase-laid v s b p pg t f _ _ _) (λ r. due-laid v s b p pg t f (s .pending) e) q))
   where
     lent : fitWith v s b ≡ true → Making b
     lent w = fit-making s b e (unfold fitWith in every-at 1 _ w)

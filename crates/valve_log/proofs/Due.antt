@@ -11,7 +11,7 @@ use lib.ListN.{length, set, take, length-take}
 use borrow.Author.Tests.{leb-true, ltb-true, not-true, eqb-false}
 use Rattle.lists.specs.declared.Cell.{Cell}
 use Rattle.lists.specs.Lists.{all}
-use Rattle.lists.specs.Needs.{need}
+use Rattle.lists.specs.Needs.{Answer, refused, gives, need}
 use Rattle.lists.specs.Cells.{Entry, Place}
 use Rattle.lists.proofs.Laws.{by-cases, every-at, below-at, tests, checked-cases, opposite}
 use Rattle.page.specs.Pages.{Page, View, whole, page, isClean, pagesFor}
@@ -27,7 +27,8 @@ use Rattle.nodes.specs.Nodes.{inBlock, sound, words, live, wordAt}
 use Rattle.state.specs.State.{Pending, idle, Held, doneFit, basePages, pendingFit, isIdle, groupsFit, fitWith, bufferedIn}
 use Rattle.calls.specs.Calls.{serialsFor}
 use Rattle.recovery.specs.Recovery.{Placed, Group}
-use Rattle.step.specs.Step.{Step, isLast, groupPage, appended, committed, collected, erasing, erasedFirst, pageNeeds, programming, appendStep, commitStep, moveStep, collectStep, due, stepOf, flushed, flushStep}
+use Rattle.step.specs.Step.{Step, isLast, groupPage, appended, committed, collected, erasing, erasedFirst, pageNeeds, programming, appendStep}
+use Rattle.step.specs.Step.{commitStep, moveStep, collectStep, due, stepOf, flushed, flushStep}
 use Rattle.step.proofs.Laws.{first-cases}
 use Rattle.valve_log.specs.History.{UnderWay, collecting, History, counted, appending, committing, flushing}
 use Rattle.index.proofs.Members.{In, in-take, in-all, all-in}
@@ -58,12 +59,12 @@ pub record Erases (v : List View) (bs : List ℕ) (h : History) (b : ℕ) (s′ 
   pub after : (w : List View) → CutViews v (16 * b) 16 v w → Coupled w (some s′) h
   pub lends : Lent s′ bs h
 
-unfoldable pub Good : List View → Held → List ℕ → History → Step → Type 0
-Good v s bs h (Step.refused n) = Unit {0}
-Good v s bs h (Step.program p pg s′ finished) = Programs v s bs h p pg s′
-Good v s bs h (Step.erase b s′ finished) = Erases v bs h b s′
+unfoldable pub Good : List View → Held → List ℕ → History → Answer Step → Type 0
+Good v s bs h (refused n) = Unit {0}
+Good v s bs h (gives (Step.program p pg s′ finished)) = Programs v s bs h p pg s′
+Good v s bs h (gives (Step.erase b s′ finished)) = Erases v bs h b s′
 
-refused-good : (v : List View) (s : Held) (bs : List ℕ) (h : History) (n : ℕ) → Good v s bs h (Step.refused n)
+refused-good : (v : List View) (s : Held) (bs : List ℕ) (h : History) (n : ℕ) → Good v s bs h (refused n)
 unfolding Good
 refused-good v s bs h n = tt
 
@@ -72,7 +73,7 @@ programming-good : (v : List View) (s : Held) (bs : List ℕ) (h : History) (p :
     → (isClean (seen v p) ≡ true → s .head .serial + 1 ≤ 2 ^ 64 - 1 → Programs v s bs h p pg s′) → Good v s bs h (programming v (s .head) p pg s′ finished)
 unfolding programming
 programming-good v s bs h p pg s′ finished f =
-    checked-cases (Good v s bs h) Step.refused (pageNeeds v (s .head) p) (Step.program p pg s′ finished) (refused-good v s bs h)
+    checked-cases (Good v s bs h) (pageNeeds v (s .head) p) (gives (Step.program p pg s′ finished)) (refused-good v s bs h)
     (λ e. unfold Good in f (unfold tests in every-at 1 _ e) (room (unfold tests in every-at 0 _ e)))
   where
     room : serialsFor (s .head) 1 ≡ true → s .head .serial + 1 ≤ 2 ^ 64 - 1
@@ -87,7 +88,8 @@ old-page v base b e q lo hi =
     let o = below-at 16 (λ i. not (reachesBase base (seen v (16 * b + i)))) e (q - 16 * b) (omega arith) in
     rw i at (not-true (reachesBase base (seen v (16 * b + (q - 16 * b)))) o)
 
-module _ (v : List View) (s : Held) (h : History) {ch : List Placed} {gs : List Group} (S : Sound v (h .log) (h .settings) (s .head .base) ch gs (s .index)) (ser : s .head .serial ≡ s .head .base + length ch) (facts : Fits v s) where
+module _ (v : List View) (s : Held) (h : History) {ch : List Placed} {gs : List Group} (S : Sound v (h .log) (h .settings) (s .head .base) ch gs (s .index))
+    (ser : s .head .serial ≡ s .head .base + length ch) (facts : Fits v s) where
   erase-good : (bs : List ℕ) (b : ℕ) → Lent s bs h → h .buffered ≡ [] → collectible v (s .head) b ≡ true → live (s .index) b ≡ [] → Erases v bs h b (erasing s b idle)
   erase-good bs b L none-buffered c e =
       record {
@@ -106,7 +108,9 @@ module _ (v : List View) (s : Held) (h : History) {ch : List Placed} {gs : List 
           side n = by-cases (ltb (x .val / 24) (16 * b)) (λ y. inl (ltb-true (x .val / 24) (16 * b) y)) (λ y. inr (above (borrow.Author.Tests.ltb-false (x .val / 24) (16 * b) y)))
             where
               above : 16 * b ≤ x .val / 24 → 16 * b + 16 ≤ x .val / 24
-              above k = by-cases (leb (16 * b + 16) (x .val / 24)) (λ z. leb-true (16 * b + 16) (x .val / 24) z) (λ z. absurd (n (let u : x .val / 24 < 16 * b + 16 = borrow.Author.Tests.leb-false (16 * b + 16) (x .val / 24) z in omega arith)))
+              above k =
+                  by-cases (leb (16 * b + 16) (x .val / 24)) (λ z. leb-true (16 * b + 16) (x .val / 24) z)
+                  (λ z. absurd (n (let u : x .val / 24 < 16 * b + 16 = borrow.Author.Tests.leb-false (16 * b + 16) (x .val / 24) z in omega arith)))
 
       outside : all (opposite (inBlock b)) (s .index) ≡ true
       outside = not-live (s .index) b e
@@ -145,7 +149,7 @@ unfolding erasing
 still-lent b L = record { holds = L .holds; fits-in = L .fits-in; allowed = L .allowed; count = L .count; beside = L .beside }
 
 -- the block is wholly clean, and reads as before also where the erase is cut
-first-good : (v : List View) (s : Held) (bs : List ℕ) (h : History) (own : Step) → Coupled v (some s) h → Lent s bs h → Fits v s → Good v s bs h own → Good v s bs h (erasedFirst v s own)
+first-good : (v : List View) (s : Held) (bs : List ℕ) (h : History) (own : Answer Step) → Coupled v (some s) h → Lent s bs h → Fits v s → Good v s bs h own → Good v s bs h (erasedFirst v s own)
 first-good v s bs h own c L facts G =
     first-cases (Good v s bs h) v s own
     (λ r. unfold Good in
@@ -170,12 +174,14 @@ counted-collect : (h : History) (u : UnderWay) → u ≡ collecting → counted 
 unfolding counted
 counted-collect h u e = rw e
 
-module _ (v : List View) (s : Held) (h : History) {ch : List Placed} {gs : List Group} (S : Sound v (h .log) (h .settings) (s .head .base) ch gs (s .index)) (ser : s .head .serial ≡ s .head .base + length ch) (facts : Fits v s)
+module _ (v : List View) (s : Held) (h : History) {ch : List Placed} {gs : List Group} (S : Sound v (h .log) (h .settings) (s .head .base) ch gs (s .index))
+    (ser : s .head .serial ≡ s .head .base + length ch) (facts : Fits v s)
     (texts : SmallWords v) (few : length v ≤ mostPages) (bs : List ℕ) (L : Lent s bs h) where
-  move-good : (b : ℕ) (moves : List Place) → h .buffered ≡ [] → h .underWay ≡ collecting → ((y : Cell) → In y moves → In y (s .index)) → 1 ≤ length moves → length moves ≤ 24 → Good v s bs h (moveStep v s b moves)
+  move-good : (b : ℕ) (moves : List Place) → h .buffered ≡ [] → h .underWay ≡ collecting → ((y : Cell) → In y moves → In y (s .index))
+      → 1 ≤ length moves → length moves ≤ 24 → Good v s bs h (moveStep v s b moves)
   unfolding moveStep
   move-good b moves nb u mem many most =
-      checked-cases (Good v s bs h) Step.refused (need 6 (sound v moves) ∷ [])
+      checked-cases (Good v s bs h) (need 6 (sound v moves) ∷ [])
       (programming v (s .head) (pageDue v (s .head)) (page 3 3 (s .head .serial) (words v moves)) (collected s b moves (pageDue v (s .head))) false) (refused-good v s bs h)
       (λ e. programming-good v s bs h (pageDue v (s .head)) (page 3 3 (s .head .serial) (words v moves)) (collected s b moves (pageDue v (s .head))) false (λ c room. programs c room))
     where
@@ -185,7 +191,8 @@ module _ (v : List View) (s : Held) (h : History) {ch : List Placed} {gs : List 
       valved : all (λ x. ltb (x .key) 32768) moves ≡ true
       valved = in-all (λ (y : Cell). ltb (y .key) 32768) moves (λ y i. all-in (λ (y : Cell). ltb (y .key) 32768) index-valved (mem y i))
 
-      programs : isClean (seen v (pageDue v (s .head))) ≡ true → s .head .serial + 1 ≤ 2 ^ 64 - 1 → Programs v s bs h (pageDue v (s .head)) (page 3 3 (s .head .serial) (words v moves)) (collected s b moves (pageDue v (s .head)))
+      programs : isClean (seen v (pageDue v (s .head))) ≡ true → s .head .serial + 1 ≤ 2 ^ 64 - 1
+          → Programs v s bs h (pageDue v (s .head)) (page 3 3 (s .head .serial) (words v moves)) (collected s b moves (pageDue v (s .head)))
       programs c room =
           let l = cl-lawful v s h S ser b (pageDue v (s .head)) moves mem many most facts room c u in
           record {
@@ -194,7 +201,9 @@ module _ (v : List View) (s : Held) (h : History) {ch : List Placed} {gs : List 
             lawfuls = l;
             serials = refl;
             after = rw (counted-collect h (h .underWay) u) (cl-more v s h S ser b (pageDue v (s .head)) moves mem many most facts room c u);
-            lends = lent-after s (collected s b moves (pageDue v (s .head))) bs h (counted h (h .underWay)) false L nb (ap (λ (t : History). t .buffered) (counted-collect h (h .underWay) u)) (unfold collected notFlush in refl);
+            lends =
+                lent-after s (collected s b moves (pageDue v (s .head))) bs h (counted h (h .underWay)) false L nb
+                (ap (λ (t : History). t .buffered) (counted-collect h (h .underWay) u)) (unfold collected notFlush in refl);
           }
 
   collect-good : (b : ℕ) → h .buffered ≡ [] → h .underWay ≡ collecting → collectible v (s .head) b ≡ true → (l : List Place) → live (s .index) b ≡ l → Good v s bs h (collectStep v s b l)
@@ -217,7 +226,9 @@ module _ (v : List View) (s : Held) (h : History) {ch : List Placed} {gs : List 
         lawfuls = fl-lawful v s h S ser (h .buffered) (pageDue v (s .head)) (L .fits-in) G (facts .serial) room c;
         serials = unfold groupsPage in refl;
         after = rw (ap (counted h) (B .0)) (fl-last v s h S ser (h .buffered) (pageDue v (s .head)) (L .fits-in) G (facts .serial) room c);
-        lends = rw (ap (counted h) (B .0)) (lent-none (flushed s (h .buffered) (pageDue v (s .head))) _ (counted h (flushing (h .buffered) 1)) (unfold groupsPage in refl) (unfold counted in refl) (unfold flushed notFlush in refl));
+        lends =
+            rw (ap (counted h) (B .0))
+            (lent-none (flushed s (h .buffered) (pageDue v (s .head))) _ (counted h (flushing (h .buffered) 1)) (unfold groupsPage in refl) (unfold counted in refl) (unfold flushed notFlush in refl));
       })
   due-good pend u (in-append {es = es} {ps = ps} {left = left} f small a b op pr) e q B G =
       unfold appendStep in
@@ -226,7 +237,9 @@ module _ (v : List View) (s : Held) (h : History) {ch : List Placed} {gs : List 
       let l = ap-lawful v s h S ser es ps left f (pageDue v (s .head)) small a b op pr (every-at 0 _ q) fewer (facts .serial) room c in
       record {
         cleans = c;
-        fits-in = narrow (groupPage 1 es (length ps) (s .head .serial)) l (page-most 1 es (length ps) (s .head .serial)) (unfold groupPage in small-part (24 * length ps) 24 es small) (unfold groupPage in omega arith);
+        fits-in =
+            narrow (groupPage 1 es (length ps) (s .head .serial)) l (page-most 1 es (length ps) (s .head .serial))
+            (unfold groupPage in small-part (24 * length ps) 24 es small) (unfold groupPage in omega arith);
         lawfuls = l;
         serials = page-serial 1 es (length ps) (s .head .serial);
         after =
@@ -242,14 +255,16 @@ module _ (v : List View) (s : Held) (h : History) {ch : List Placed} {gs : List 
   due-good pend u (in-commit {k = k} {left = left} f ps pre n a b sp op al ag) e q B G =
       unfold commitStep in
       rw (← n)
-      (programming-good v s bs h (pageDue v (s .head)) (groupPage 2 (s .index) (length ps) (s .head .serial)) (committed s (length ps) (pageDue v (s .head))) (isLast (length ps) (length (s .index))) (λ c room.
+      (programming-good v s bs h (pageDue v (s .head)) (groupPage 2 (s .index) (length ps) (s .head .serial))
+      (committed s (length ps) (pageDue v (s .head))) (isLast (length ps) (length (s .index))) (λ c room.
       let fewer : length ps < basePages (length (s .index)) = rw n (ltb-true k (basePages (length (s .index))) (every-at 1 _ q)) in
       let l = cm-lawful v s h S ser ps left f (pageDue v (s .head)) pre (rw n a) (rw n b) sp op al ag facts fewer room c in
       record {
         cleans = c;
         fits-in =
             narrow (groupPage 2 (s .index) (length ps) (s .head .serial)) l (page-most 2 (s .index) (length ps) (s .head .serial))
-            (unfold groupPage in small-part (24 * length ps) 24 (s .index) (small-places (s .head .blocks) (s .index) (omega (arith, facts .size)) (unfold valves in facts .valve) (facts .address))) (unfold groupPage in omega arith);
+            (unfold groupPage in small-part (24 * length ps) 24 (s .index) (small-places (s .head .blocks) (s .index) (omega (arith, facts .size)) (unfold valves in facts .valve) (facts .address)))
+            (unfold groupPage in omega arith);
         lawfuls = l;
         serials = page-serial 2 (s .index) (length ps) (s .head .serial);
         after =
@@ -259,24 +274,27 @@ module _ (v : List View) (s : Held) (h : History) {ch : List Placed} {gs : List 
             (λ z. cm-more v s h S ser ps left f (pageDue v (s .head)) pre (rw n a) (rw n b) sp op al ag facts fewer room c z));
         lends =
             rw (ap (counted h) e)
-            (lent-after s (committed s (length ps) (pageDue v (s .head))) bs h (counted h (committing left)) (eqb (groupPage 2 (s .index) (length ps) (s .head .serial) .kind) 4) L B (kept-commit h left)
+            (lent-after s (committed s (length ps) (pageDue v (s .head))) bs h (counted h (committing left))
+            (eqb (groupPage 2 (s .index) (length ps) (s .head .serial) .kind) 4) L B (kept-commit h left)
             (committed-calm s (length ps) (pageDue v (s .head))));
       }))
   due-good pend u (in-collect {b = b}) e q B G = collect-good b B e q (live (s .index) b) refl
 
-aligned : {v : List View} {log : List (List Entry)} {settings : List Cell} {b : ℕ} {ch : List Placed} {gs : List Group} {idx : List Place} (b′ : ℕ) (idx′ : List Place) → b′ ≡ b → idx′ ≡ idx → Sound v log settings b ch gs idx → Sound v log settings b′ ch gs idx′
+aligned : {v : List View} {log : List (List Entry)} {settings : List Cell} {b : ℕ} {ch : List Placed} {gs : List Group} {idx : List Place} (b′ : ℕ) (idx′ : List Place)
+    → b′ ≡ b → idx′ ≡ idx → Sound v log settings b ch gs idx → Sound v log settings b′ ch gs idx′
 aligned b′ idx′ p q S = rw (p, q) S
 
 -- the step that is due
 pub step-good : (n : ℕ) (v : List View) (s : Held) (b : List ℕ) (h : History) → SmallWords v → length v ≤ mostPages → Coupled v (some s) h → Lent s b h → Good v s b h (stepOf n v s b)
 unfolding stepOf
 step-good n v s b h texts few c L =
-    checked-cases (Good v s b h) Step.refused (need 1 (sizeOk n) ∷ need 7 (fitWith v s b) ∷ need 9 (not (isIdle (s .pending))) ∷ []) (erasedFirst v s (due v s (bufferedIn b) (s .pending))) (refused-good v s b h)
+    checked-cases (Good v s b h) (need 1 (sizeOk n) ∷ need 7 (fitWith v s b) ∷ need 9 (not (isIdle (s .pending))) ∷ []) (erasedFirst v s (due v s (bufferedIn b) (s .pending))) (refused-good v s b h)
     (λ e. let w : fitWith v s b ≡ true = unfold tests in every-at 1 _ e in let F = fits v s (state-fit v s b w) in first-good v s b h (due v s (bufferedIn b) (s .pending)) c L F (with-state (alive-of (c .memory)) w F))
   where
     with-state : Alive v s (h .underWay) (c .b) (c .ch) (c .gs) (c .idx) → fitWith v s b ≡ true → Fits v s → Good v s b h (due v s (bufferedIn b) (s .pending))
     with-state a w F =
         let k = lent-fit v L w in
         rw (lent-groups L)
-        (due-good v s h (aligned (s .head .base) (s .index) (a .bases) (a .indices) (c .medium)) (a .serials ∙ ap (λ (n : ℕ). n + length (c .ch)) (sym (a .bases))) F texts few b L (s .pending) (h .underWay)
+        (due-good v s h (aligned (s .head .base) (s .index) (a .bases) (a .indices) (c .medium))
+        (a .serials ∙ ap (λ (n : ℕ). n + length (c .ch)) (sym (a .bases))) F texts few b L (s .pending) (h .underWay)
         (rw (a .indices) (a .pends)) refl (F .pending) (L .beside) k)

@@ -11,7 +11,7 @@ use lib.Dec.{eqb}
 use lib.ListN.{length}
 use borrow.Author.Tests.{leb-true, eqb-true, eq-eqb}
 use Rattle.lists.specs.Lists.{every, Below}
-use Rattle.lists.specs.Needs.{Need, checked}
+use Rattle.lists.specs.Needs.{Answer, refused, gives, Need, checked}
 use Rattle.lists.specs.Cells.{Entry}
 use Rattle.codec.specs.Codec.{blank}
 use Rattle.lists.proofs.Laws.{and-l, and-r, and-both, true-false, every-at, tests, checked-cases}
@@ -27,9 +27,11 @@ use Rattle.blocks.specs.Blocks.{sizeOk}
 use Rattle.state.specs.State.{Pending, append, commit, collect, flush, Held, basePages, bufferedIn}
 use Rattle.recovery.specs.Recovery.{Placed, Group, Recovery, walk, groupsOf}
 use Rattle.recovery.specs.Recovery
-use Rattle.calls.specs.Calls.{Call, Buffering, starting, zip, listsOk, holdsNone, placesFor, appendNeeds, appendOf, commitNeeds, commitOf, collectNeeds, collectOf, flushNeeds, flushOf, bufferNeeds, bufferOf}
+use Rattle.calls.specs.Calls.{starting, zip, listsOk, holdsNone, placesFor, appendNeeds, appendOf, commitNeeds, commitOf, collectNeeds, collectOf, flushNeeds, flushOf, bufferNeeds, bufferOf}
+use Rattle.calls.proofs.Laws.{some-groups}
 use Rattle.step.specs.Step.{Step, stepOf, mediumAfter, bufferAfter}
-use Rattle.valve_log.specs.History.{UnderWay, nothing, appending, committing, collecting, flushing, History, history, Told, unchanged, beganAppend, beganCommit, beganCollect, putIn, beganFlush, steppedPage, counted, tell}
+use Rattle.valve_log.specs.History.{UnderWay, nothing, appending, committing, collecting, flushing, History, history, Told, unchanged, beganAppend}
+use Rattle.valve_log.specs.History.{beganCommit, beganCollect, putIn, beganFlush, steppedPage, counted, tell}
 use Rattle.valve_log.specs.Reached.{World, world, fresh, withState, stepDue, CutOf, Event, Moment, called, filled, stepped, sameBytes, cutShort, recovered, happen}
 use Rattle.valve_log.specs.Reached
 use Rattle.nodes.proofs.Alive.{words-length}
@@ -76,10 +78,6 @@ no-groups : (gs : List (List Entry)) → eqb (length gs) 0 ≡ true → gs ≡ [
 no-groups [] e = refl
 no-groups (g ∷ gs) e = absurd (let z : length (g ∷ gs) ≡ 0 = eqb-true (length (g ∷ gs)) 0 e in omega arith)
 
-some-groups : (gs : List (List Entry)) → not (eqb (length gs) 0) ≡ true → 1 ≤ length gs
-some-groups [] e = true-false e refl
-some-groups (g ∷ gs) e = omega arith
-
 -- ---- calls that begin an operation
 
 module _ (m : List ℕ) (s : Held) (b : List ℕ) (h : History) (U : Upheld (world m (some s) b) h) where
@@ -107,8 +105,8 @@ module _ (m : List ℕ) (s : Held) (b : List ℕ) (h : History) (U : Upheld (wor
       }
 
   -- a call whose conditions are met begins the operation; otherwise nothing changes
-  call-good : (t : Told) (cs : List Need) (s′ : Held) → (every (tests cs) ≡ true → Upheld (world m (some s′) b) (tell h t)) → Follows h (called (world m (some s) b) t (checked Call.refused cs (Call.begun s′)))
-  call-good t cs s′ U′ = checked-cases (λ (r : Call). Follows h (called (world m (some s) b) t r)) Call.refused cs (Call.begun s′) (λ n. unfold called tell in U) (λ e. unfold called in U′ e)
+  call-good : (t : Told) (cs : List Need) (s′ : Held) → (every (tests cs) ≡ true → Upheld (world m (some s′) b) (tell h t)) → Follows h (called (world m (some s) b) t (checked cs s′))
+  call-good t cs s′ U′ = checked-cases (λ (r : Answer Held). Follows h (called (world m (some s) b) t r)) cs (gives s′) (λ n. unfold called tell in U) (λ e. unfold called in U′ e)
 
   -- 24: nothing is buffered
   none-buffered : holdsNone b ≡ true → h .buffered ≡ []
@@ -123,7 +121,8 @@ module _ (m : List ℕ) (s : Held) (b : List ℕ) (h : History) (U : Upheld (wor
   append-good ks ws x y =
       call-good (beganAppend (zip ks ws)) (appendNeeds (length m) (views m) s b ks ws) (starting s (append (zip ks ws) []))
       (λ e. unfold tell in begin-good (append (zip ks ws) []) (appending (zip ks ws) (pagesFor (length (zip ks ws))))
-      (λ ch gs. in-append {es = zip ks ws} {ps = []} {left = pagesFor (length (zip ks ws))} (s .head .serial) (small-zip ks ws x y) (omega arith) (omega arith) (unfold lay in unopened) (unfold lay in nil))
+      (λ ch gs. in-append {es = zip ks ws} {ps = []} {left = pagesFor (length (zip ks ws))} (s .head .serial)
+      (small-zip ks ws x y) (omega arith) (omega arith) (unfold lay in unopened) (unfold lay in nil))
       (unfold Beside in none-buffered (fourth e)))
     where
       fourth : every (tests (appendNeeds (length m) (views m) s b ks ws)) ≡ true → holdsNone b ≡ true
@@ -172,10 +171,11 @@ module _ (m : List ℕ) (s : Held) (b : List ℕ) (h : History) (U : Upheld (wor
   buffer-good : (ks ws : List ℕ) → Below (2 ^ 16) ks → Below (2 ^ 64) ws → Follows h (filled (world m (some s) b) (putIn (zip ks ws)) (bufferOf (length m) (views m) s b ks ws))
   unfolding bufferOf tests
   buffer-good ks ws x y =
-      checked-cases (λ (r : Buffering). Follows h (filled (world m (some s) b) (putIn (zip ks ws)) r)) Buffering.refused (bufferNeeds (length m) (views m) s b ks ws) (Buffering.buffered (holding (bufferedIn b ++ (zip ks ws ∷ []))))
+      checked-cases (λ (r : Answer (List ℕ)). Follows h (filled (world m (some s) b) (putIn (zip ks ws)) r)) (bufferNeeds (length m) (views m) s b ks ws) (gives (holding (bufferedIn b ++ (zip ks ws ∷ []))))
       (λ n. unfold filled tell in U) (λ e. unfold filled tell in after e)
     where
-      lends : every (tests (bufferNeeds (length m) (views m) s b ks ws)) ≡ true → Lent s (holding (bufferedIn b ++ (zip ks ws ∷ []))) (history (h .settings) (h .log) (h .underWay) (h .buffered ++ (zip ks ws ∷ [])))
+      lends : every (tests (bufferNeeds (length m) (views m) s b ks ws)) ≡ true
+          → Lent s (holding (bufferedIn b ++ (zip ks ws ∷ []))) (history (h .settings) (h .log) (h .underWay) (h .buffered ++ (zip ks ws ∷ [])))
       lends e =
           let lists = every-at 3 _ e in
           let z = zip-length ks ws (eqb-true (length ks) (length ws) (unfold listsOk in every-at 0 _ lists)) in
@@ -183,7 +183,8 @@ module _ (m : List ℕ) (s : Held) (b : List ℕ) (h : History) (U : Upheld (wor
           let few : length (changesOf (bufferedIn b)) + length ks ≤ 16 = leb-true (length (changesOf (bufferedIn b)) + length ks) 16 (unfold placesFor in every-at 6 _ e) in
           lent-more L (zip ks ws) (every-at 2 _ e) (small-zip ks ws x y) (omega arith) (omega arith) (every-at 4 _ e) (every-at 5 _ e)
 
-      after : every (tests (bufferNeeds (length m) (views m) s b ks ws)) ≡ true → Upheld (world m (some s) (holding (bufferedIn b ++ (zip ks ws ∷ [])))) (history (h .settings) (h .log) (h .underWay) (h .buffered ++ (zip ks ws ∷ [])))
+      after : every (tests (bufferNeeds (length m) (views m) s b ks ws)) ≡ true
+          → Upheld (world m (some s) (holding (bufferedIn b ++ (zip ks ws ∷ [])))) (history (h .settings) (h .log) (h .underWay) (h .buffered ++ (zip ks ws ∷ [])))
       after e =
           let c = U .coupled in
           record {
@@ -281,7 +282,8 @@ module _ (m : List ℕ) (s : Held) (bs : List ℕ) (h : History) (U : Upheld (wo
           go (whole y) k = true-false (rw (cut-program-final m p pg left there few (U .guarded) c y k) (same-refl (programmed m p pg))) e
 
       cut-program-upheld : (b : Bool) → sameBytes left (programmed m p pg) ≡ b → Upheld (world left none fresh) (tell h (cond b steppedPage unchanged))
-      cut-program-upheld true e = rw (same-true left (programmed m p pg) e) (unfold tell in cut-good (programmed m p pg) (some s′) (cond (eqb (pg .kind) 4) (blank 256) bs) fresh (counted h (h .underWay)) program-upheld)
+      cut-program-upheld true e =
+          rw (same-true left (programmed m p pg) e) (unfold tell in cut-good (programmed m p pg) (some s′) (cond (eqb (pg .kind) 4) (blank 256) bs) fresh (counted h (h .underWay)) program-upheld)
       cut-program-upheld false e =
           let C = U .coupled in
           let k = one-keeps (views m) (views left) p (P .cleans) others in
@@ -317,7 +319,12 @@ module _ (m : List ℕ) (s : Held) (bs : List ℕ) (h : History) (U : Upheld (wo
         })
 
     erase-upheld : Upheld (world (erased m b) (some s′) bs) h
-    erase-upheld = record { size = rw (erase-length m b block-there) (U .size); guarded = erase-guarded m b block-there (U .guarded); coupled = E .after (views (erased m b)) erase-cut; lending = kept (E .lends) }
+    erase-upheld = record {
+      size = rw (erase-length m b block-there) (U .size);
+      guarded = erase-guarded m b block-there (U .guarded);
+      coupled = E .after (views (erased m b)) erase-cut;
+      lending = kept (E .lends);
+    }
 
     cut-erase-upheld : (left : List ℕ) → CutErase m b left → Upheld (world left none fresh) h
     cut-erase-upheld left c =
@@ -329,17 +336,17 @@ module _ (m : List ℕ) (s : Held) (bs : List ℕ) (h : History) (U : Upheld (wo
           lending = lost;
         }
 
-  step-goes : (st : Step) → Good (views m) s bs h st → Follows h (stepped (world m (some s) bs) st)
+  step-goes : (st : Answer Step) → Good (views m) s bs h st → Follows h (stepped (world m (some s) bs) st)
   unfolding stepped mediumAfter bufferAfter Good tell
-  step-goes (Step.refused n) G = U
-  step-goes (Step.program p pg s′ finished) G = program-upheld p pg s′ G
-  step-goes (Step.erase b s′ finished) G = erase-upheld b s′ G
+  step-goes (refused n) G = U
+  step-goes (gives (Step.program p pg s′ finished)) G = program-upheld p pg s′ G
+  step-goes (gives (Step.erase b s′ finished)) G = erase-upheld b s′ G
 
-  cut-goes : (st : Step) → Good (views m) s bs h st → (left : List ℕ) → CutOf m st left → Follows h (cutShort (world m (some s) bs) left st)
+  cut-goes : (st : Answer Step) → Good (views m) s bs h st → (left : List ℕ) → CutOf m st left → Follows h (cutShort (world m (some s) bs) left st)
   unfolding cutShort CutOf Good
-  cut-goes (Step.refused n) G left c = absurd c
-  cut-goes (Step.program p pg s′ finished) G left c = cut-program-upheld p pg s′ G left c (sameBytes left (programmed m p pg)) refl
-  cut-goes (Step.erase b s′ finished) G left c = unfold tell in cut-erase-upheld b s′ G left c
+  cut-goes (refused n) G left c = absurd c
+  cut-goes (gives (Step.program p pg s′ finished)) G left c = cut-program-upheld p pg s′ G left c (sameBytes left (programmed m p pg)) refl
+  cut-goes (gives (Step.erase b s′ finished)) G left c = unfold tell in cut-erase-upheld b s′ G left c
 
   pub due-good : Good (views m) s bs h (stepOf (length m) (views m) s bs)
   due-good = step-good (length m) (views m) s bs h (words-small m (U .guarded .bytes)) (few-views m (U .size)) (U .coupled) (lent-of (U .lending))

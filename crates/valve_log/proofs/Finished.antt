@@ -8,7 +8,7 @@ use native.Mathlib.Omega.{arith}
 use native.Mathlib.Decide.{decLt}
 use lib.ListN.{length, getD}
 use Rattle.lists.specs.Lists.{Bytes}
-use Rattle.lists.specs.Needs.{checked}
+use Rattle.lists.specs.Needs.{Answer, refused, gives, under}
 use Rattle.page.specs.Pages.{clean}
 use Rattle.page.specs.Layout.{viewOf}
 use Rattle.page.proofs.Buffer.{gathered-blank}
@@ -18,7 +18,7 @@ use Rattle.flash.proofs.Laws.{seen-views, length-views}
 use Rattle.flash.proofs.Steps.{erase-length}
 use Rattle.blocks.specs.Blocks.{sizeOk}
 use Rattle.state.specs.State.{Held, nowErased}
-use Rattle.calls.specs.Calls.{Call, formatting, formatOf}
+use Rattle.calls.specs.Calls.{formatting, formatOf}
 use Rattle.calls.proofs.Laws.{formatState}
 use Rattle.step.specs.Step.{Step, formatted, stepOf, mediumAfter, bufferAfter}
 use Rattle.step.proofs.Formats.{erase-due, base-due}
@@ -30,28 +30,28 @@ use Rattle.valve_log.proofs.Formats.{one-more, basePage, blank-page, pa
 
 -- ---- a step of formatting as an event
 
-module _ (m : List ℕ) (s : Held) (t : Step) (d : stepOf (length m) (views m) s fresh ≡ t) where
+module _ (m : List ℕ) (s : Held) (t : Answer Step) (d : stepOf (length m) (views m) s fresh ≡ t) where
   due-is : stepDue (world m (some s) fresh) ≡ t
   unfolding stepDue withState
   due-is = d
 
   after-is : happen (world m (some s) fresh) Event.step .after ≡ stepped (world m (some s) fresh) t .after
   unfolding happen
-  after-is = ap (λ (q : Step). stepped (world m (some s) fresh) q .after) due-is
+  after-is = ap (λ (q : Answer Step). stepped (world m (some s) fresh) q .after) due-is
 
-erase-after : (m : List ℕ) (s s′ : Held) (k : ℕ) → stepped (world m (some s) fresh) (Step.erase k s′ false) .after ≡ world (erased m k) (some s′) fresh
+erase-after : (m : List ℕ) (s s′ : Held) (k : ℕ) → stepped (world m (some s) fresh) (gives (Step.erase k s′ false)) .after ≡ world (erased m k) (some s′) fresh
 unfolding stepped mediumAfter bufferAfter
 erase-after m s s′ k = refl
 
-program-after : (m : List ℕ) (s s′ : Held) → stepped (world m (some s) fresh) (Step.program 0 basePage s′ true) .after ≡ world (programmed m 0 basePage) (some s′) fresh
+program-after : (m : List ℕ) (s s′ : Held) → stepped (world m (some s) fresh) (gives (Step.program 0 basePage s′ true)) .after ≡ world (programmed m 0 basePage) (some s′) fresh
 unfolding stepped mediumAfter bufferAfter
 program-after m s s′ = refl
 
-erase-open : (k : ℕ) (s : Held) → finishes (Step.erase k s false) ≡ false
+erase-open : (k : ℕ) (s : Held) → finishes (gives (Step.erase k s false)) ≡ false
 unfolding finishes
 erase-open k s = refl
 
-program-over : (s : Held) → finishes (Step.program 0 basePage s true) ≡ true
+program-over : (s : Held) → finishes (gives (Step.program 0 basePage s true)) ≡ true
 unfolding finishes
 program-over s = refl
 
@@ -74,12 +74,12 @@ module _ (n : ℕ) (size : sizeOk n ≡ true) where
     size-here : sizeOk (length m) ≡ true
     size-here = rw (E .long) size
 
-    erases : stepOf (length m) (views m) (formatState (length m / 4096) k (E .records)) fresh ≡ Step.erase k (formatState (length m / 4096) (suc k) (nowErased (E .records) k)) false
+    erases : stepOf (length m) (views m) (formatState (length m / 4096) k (E .records)) fresh ≡ gives (Step.erase k (formatState (length m / 4096) (suc k) (nowErased (E .records) k)) false)
     erases =
         let S = sized (length m) size-here in
         erase-due (length m) (views m) (length m / 4096) (E .records) fresh [] size-here (omega (arith, length-views m)) (omega (arith, S .low)) gathered-blank k (omega (arith, E .long))
 
-    not-refused : (j : ℕ) → stepDue w ≡ Step.refused j → ⊥
+    not-refused : (j : ℕ) → stepDue w ≡ refused j → ⊥
     not-refused j e =
         let f = sym (ap stepDue (E .is) ∙ due-is m _ _ erases) ∙ e in
         let z : _≡_ {A = ℕ} 0 1 = cc in omega arith
@@ -95,7 +95,9 @@ module _ (n : ℕ) (size : sizeOk n ≡ true) where
         record {
           medium = erased m k;
           records = nowErased (E .records) k;
-          is = ap (λ (x : World). happen x Event.step .after) (E .is) ∙ after-is m _ _ erases ∙ erase-after m _ _ k ∙ ap (λ (j : ℕ). world (erased m k) (some (formatState (j / 4096) (suc k) (nowErased (E .records) k))) fresh) (sym l);
+          is =
+              ap (λ (x : World). happen x Event.step .after) (E .is) ∙ after-is m _ _ erases ∙ erase-after m _ _ k
+              ∙ ap (λ (j : ℕ). world (erased m k) (some (formatState (j / 4096) (suc k) (nowErased (E .records) k))) fresh) (sym l);
           long = l ∙ E .long;
           bytes = I .bytes;
           blanks = I .blanks;
@@ -121,10 +123,11 @@ module _ (n : ℕ) (size : sizeOk n ≡ true) where
     first-clean : seen (views (E .medium)) 0 ≡ clean
     first-clean =
         seen-views (E .medium) 0
-        ∙ ap viewOf (blank-page (E .medium) fresh blocks (E .records) size-last (E .bytes) few blanks-last few 0 (page-there (E .medium) fresh blocks (E .records) size-last (E .bytes) few blanks-last few))
+        ∙ ap viewOf
+        (blank-page (E .medium) fresh blocks (E .records) size-last (E .bytes) few blanks-last few 0 (page-there (E .medium) fresh blocks (E .records) size-last (E .bytes) few blanks-last few))
         ∙ blank-clean
 
-    writes : stepOf (length (E .medium)) (views (E .medium)) (formatState blocks blocks (E .records)) fresh ≡ Step.program 0 basePage (formatted (formatState blocks blocks (E .records))) true
+    writes : stepOf (length (E .medium)) (views (E .medium)) (formatState blocks blocks (E .records)) fresh ≡ gives (Step.program 0 basePage (formatted (formatState blocks blocks (E .records))) true)
     writes =
         let S = sized (length (E .medium)) size-last in
         base-due (length (E .medium)) (views (E .medium)) blocks (E .records) fresh [] size-last (omega (arith, length-views (E .medium))) (omega (arith, S .low)) gathered-blank first-clean
@@ -132,7 +135,7 @@ module _ (n : ℕ) (size : sizeOk n ≡ true) where
     here : w ≡ world (E .medium) (some (formatState blocks blocks (E .records))) fresh
     here = E .is ∙ ap (λ (j : ℕ). world (E .medium) (some (formatState blocks j (E .records))) fresh) (sym all-there)
 
-    last-not-refused : (j : ℕ) → stepDue w ≡ Step.refused j → ⊥
+    last-not-refused : (j : ℕ) → stepDue w ≡ refused j → ⊥
     last-not-refused j e =
         let f = sym (ap stepDue here ∙ due-is (E .medium) _ _ writes) ∙ e in
         let z : _≡_ {A = ℕ} 0 1 = cc in omega arith
@@ -151,8 +154,8 @@ module _ (n : ℕ) (size : sizeOk n ≡ true) where
 abbrev first : List ℕ → World
 first m = world m (some (formatting (length m / 4096))) fresh
 
-begun-there : (n : ℕ) → sizeOk n ≡ true → formatOf n ≡ Call.begun (formatting (n / 4096))
-unfolding formatOf checked
+begun-there : (n : ℕ) → sizeOk n ≡ true → formatOf n ≡ gives (formatting (n / 4096))
+unfolding formatOf under
 begun-there n size = rw size
 
 module _ (m : List ℕ) (b : Bytes m) (size : sizeOk (length m) ≡ true) where
@@ -167,10 +170,10 @@ module _ (m : List ℕ) (b : Bytes m) (size : sizeOk (length m) ≡ true) where
   not-over : (k : ℕ) → k < length m / 4096 → finishes (stepDue (stepsOn k (first m))) ≡ false
   not-over k h = goes-on (length m) size k h (stepsOn k (first m)) (at k (omega arith))
 
-  all-accepted : (k j : ℕ) → k ≤ length m / 4096 → stepDue (stepsOn k (first m)) ≡ Step.refused j → ⊥
+  all-accepted : (k j : ℕ) → k ≤ length m / 4096 → stepDue (stepsOn k (first m)) ≡ refused j → ⊥
   all-accepted k j h = go (decLt k (length m / 4096))
     where
-      go : Dec (k < length m / 4096) → stepDue (stepsOn k (first m)) ≡ Step.refused j → ⊥
+      go : Dec (k < length m / 4096) → stepDue (stepsOn k (first m)) ≡ refused j → ⊥
       go (yes q) = not-refused (length m) size k q (stepsOn k (first m)) (at k h) j
       go (no q) =
           let e : k ≡ length m / 4096 = omega arith in

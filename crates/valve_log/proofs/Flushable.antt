@@ -10,9 +10,9 @@ use lib.Dec.{eqb}
 use lib.ListN.{length}
 use borrow.Author.Tests.{eqb-true, eqb-false}
 use Rattle.lists.specs.Lists.{every}
-use Rattle.lists.specs.Needs.{Need, checked}
+use Rattle.lists.specs.Needs.{Answer, refused, gives, Need, under, checked}
 use Rattle.lists.specs.Cells.{Entry, Place}
-use Rattle.lists.proofs.Laws.{by-cases, true-false, checked-cases, every-at, tests}
+use Rattle.lists.proofs.Laws.{by-cases, true-false, checked-cases, every-at, tests, same-refusal, given-refused}
 use Rattle.page.specs.Pages.{Page, View, isClean}
 use Rattle.flash.specs.Medium.{views, seen}
 use Rattle.blocks.specs.declared.Head.{Head}
@@ -21,7 +21,7 @@ use Rattle.nodes.specs.Nodes.{live}
 use Rattle.state.specs.State.{Pending, idle, append, commit, collect, format, flush, unnamed, Held, fitWith, bufferedIn, isIdle}
 use Rattle.recovery.specs.Recovery.{Recovery}
 use Rattle.recovery.specs.Recovery as recovery
-use Rattle.calls.specs.Calls.{Call, Buffering, starting, zip, roomFor, serialsFor, holdsNone, appendNeeds, appendOf, commitNeeds, commitOf, collectNeeds, collectOf, flushNeeds, flushOf, bufferNeeds, bufferOf}
+use Rattle.calls.specs.Calls.{starting, zip, roomFor, serialsFor, holdsNone, appendNeeds, appendOf, commitNeeds, commitOf, collectNeeds, collectOf, flushNeeds, flushOf, bufferNeeds, bufferOf}
 use Rattle.step.specs.Step.{Step, erasing, pageNeeds, programming, appendStep, commitStep, moveStep, collectStep, flushStep, due, programsDue, needsErase, erasedFirst, stepOf}
 use Rattle.step.proofs.Laws.{first-cases}
 use Rattle.valve_log.specs.History.{UnderWay, History, Told, beganAppend, beganCommit, beganCollect, putIn, beganFlush, counted, tell}
@@ -88,23 +88,23 @@ room-none v gs (some s) e = λ k. nothing-in e k
 
 module _ (s : Held) (h : History) where
   -- a page leaves nothing buffered, and an erase leaves what there was
-  unfoldable Leaves : Step → Type 0
-  Leaves (Step.refused n) = Unit {0}
-  Leaves (Step.program p pg t f) = counted h (h .underWay) .buffered ≡ []
-  Leaves (Step.erase b t f) = 1 ≤ length (h .buffered) → (v : List View) → Room v t (t .pending)
+  unfoldable Leaves : Answer Step → Type 0
+  Leaves (refused n) = Unit {0}
+  Leaves (gives (Step.program p pg t f)) = counted h (h .underWay) .buffered ≡ []
+  Leaves (gives (Step.erase b t f)) = 1 ≤ length (h .buffered) → (v : List View) → Room v t (t .pending)
 
   programming-leaves : (v : List View) (k : Head) (p : ℕ) (pg : Page) (t : Held) (f : Bool) → counted h (h .underWay) .buffered ≡ [] → Leaves (programming v k p pg t f)
   unfolding programming
-  programming-leaves v k p pg t f e = checked-cases Leaves Step.refused (pageNeeds v k p) (Step.program p pg t f) (λ n. unfold Leaves in tt) (λ x. unfold Leaves in e)
+  programming-leaves v k p pg t f e = checked-cases Leaves (pageNeeds v k p) (gives (Step.program p pg t f)) (λ n. unfold Leaves in tt) (λ x. unfold Leaves in e)
 
-  first-leaves : (v : List View) (own : Step) → (1 ≤ length (h .buffered) → Room v s (s .pending)) → Leaves own → Leaves (erasedFirst v s own)
+  first-leaves : (v : List View) (own : Answer Step) → (1 ≤ length (h .buffered) → Room v s (s .pending)) → Leaves own → Leaves (erasedFirst v s own)
   unfolding erasing
   first-leaves v own r l = first-cases Leaves v s own (λ q. unfold Leaves in λ k x. room-busy (s .index) v x s _ (s .pending) (q .programs) refl (r k)) (λ q. l)
 
   collect-leaves : (v : List View) (b : ℕ) (l : List Place) → h .buffered ≡ [] → counted h (h .underWay) .buffered ≡ [] → Leaves (collectStep v s b l)
   unfolding collectStep
   collect-leaves v b [] e f = unfold Leaves in λ k x. nothing-in e k
-  collect-leaves v b (x ∷ xs) e f = unfold moveStep in checked-cases Leaves Step.refused _ _ (λ n. unfold Leaves in tt) (λ y. programming-leaves v _ _ _ _ _ f)
+  collect-leaves v b (x ∷ xs) e f = unfold moveStep in checked-cases Leaves _ _ (λ n. unfold Leaves in tt) (λ y. programming-leaves v _ _ _ _ _ f)
 
   abbrev after : UnderWay → List (List Entry)
   after u = counted h u .buffered
@@ -134,58 +134,63 @@ module _ (m : List ℕ) (s : Held) (bs : List ℕ) (h : History) (U : Upheld (wo
       empty (x ∷ xs) q = absurd (omega arith)
 
   call-room : (t : Told) (cs : List Need) (s′ : Held) → tell h t .buffered ≡ h .buffered → (every (tests cs) ≡ true → StateRoom (views m) (h .buffered) (some s′))
-      → WorldRoom (called (world m (some s) bs) t (checked Call.refused cs (Call.begun s′)) .after) (tell h (called (world m (some s) bs) t (checked Call.refused cs (Call.begun s′)) .told))
+      → WorldRoom (called (world m (some s) bs) t (checked cs s′) .after) (tell h (called (world m (some s) bs) t (checked cs s′) .told))
   call-room t cs s′ e f =
-      checked-cases (λ (c : Call). WorldRoom (called (world m (some s) bs) t c .after) (tell h (called (world m (some s) bs) t c .told))) Call.refused cs (Call.begun s′)
+      checked-cases (λ (c : Answer Held). WorldRoom (called (world m (some s) bs) t c .after) (tell h (called (world m (some s) bs) t c .told))) cs (gives s′)
       (λ n. unfold called tell in r) (λ x. unfold called in rw e (f x))
 
   -- 13 and 14 are asked where a group is put in
   buffer-room : (t : Told) (cs : List Need) (b : List ℕ) → (every (tests cs) ≡ true → Room (views m) s (s .pending))
-      → WorldRoom (filled (world m (some s) bs) t (checked Buffering.refused cs (Buffering.buffered b)) .after) (tell h (filled (world m (some s) bs) t (checked Buffering.refused cs (Buffering.buffered b)) .told))
+      → WorldRoom (filled (world m (some s) bs) t (checked cs b) .after) (tell h (filled (world m (some s) bs) t (checked cs b) .told))
   buffer-room t cs b f =
-      checked-cases (λ (c : Buffering). WorldRoom (filled (world m (some s) bs) t c .after) (tell h (filled (world m (some s) bs) t c .told))) Buffering.refused cs (Buffering.buffered b)
+      checked-cases (λ (c : Answer (List ℕ)). WorldRoom (filled (world m (some s) bs) t c .after) (tell h (filled (world m (some s) bs) t c .told))) cs (gives b)
       (λ n. unfold filled tell in r) (λ x. unfold filled StateRoom in λ k. f x)
 
-  step-room : (st : Step) → Leaves s h st → WorldRoom (stepped (world m (some s) bs) st .after) (tell h (stepped (world m (some s) bs) st .told))
+  step-room : (st : Answer Step) → Leaves s h st → WorldRoom (stepped (world m (some s) bs) st .after) (tell h (stepped (world m (some s) bs) st .told))
   unfolding stepped tell StateRoom Leaves
-  step-room (Step.refused n) l = r
-  step-room (Step.program p pg t f) l = λ x. nothing-in l x
-  step-room (Step.erase b t f) l = λ x. l x _
+  step-room (refused n) l = r
+  step-room (gives (Step.program p pg t f)) l = λ x. nothing-in l x
+  step-room (gives (Step.erase b t f)) l = λ x. l x _
 
   step-leaves : Leaves s h (stepOf (length m) (views m) s bs)
   unfolding stepOf
   step-leaves =
-      checked-cases (Leaves s h) Step.refused _ _ (λ n. unfold Leaves in tt)
+      checked-cases (Leaves s h) _ _ (λ n. unfold Leaves in tt)
       (λ e. first-leaves s h (views m) _ (unfold StateRoom in r) (rw (lent-groups L) (due-leaves s h (views m) (s .pending) (h .underWay) (alive-of (U .coupled .memory) .pends) refl (L .beside))))
 
-recovered-room : (w : World) (h : History) (R : Recovery) → WorldRoom w h → WorldRoom (recovered w R .after) (tell h (recovered w R .told))
+recovered-room : (w : World) (h : History) (R : Answer Recovery) → WorldRoom w h → WorldRoom (recovered w R .after) (tell h (recovered w R .told))
 unfolding recovered tell
-recovered-room w h (Recovery.refused n) r = r
-recovered-room w h (Recovery.recovered log s) r = room-none _ _ (some s) refl
+recovered-room w h (refused n) r = r
+recovered-room w h (gives x) r = room-none _ _ (some (x .state)) refl
 
-cut-room : (w : World) (left : List ℕ) (st : Step) (g : List (List Entry)) → StateRoom (views (cutShort w left st .after .medium)) g (cutShort w left st .after .state)
+cut-room : (w : World) (left : List ℕ) (st : Answer Step) (g : List (List Entry)) → StateRoom (views (cutShort w left st .after .medium)) g (cutShort w left st .after .state)
 unfolding cutShort StateRoom
-cut-room w left (Step.refused n) g = tt
-cut-room w left (Step.program p pg s f) g = tt
-cut-room w left (Step.erase b s f) g = tt
+cut-room w left (refused n) g = tt
+cut-room w left (gives (Step.program p pg s f)) g = tt
+cut-room w left (gives (Step.erase b s f)) g = tt
 
 event-room : (m : List ℕ) (s : Option Held) (b : List ℕ) (h : History) (e : Event (world m s b)) → Upheld (world m s b) h → StateRoom (views m) (h .buffered) s
     → WorldRoom (happen (world m s b) e .after) (tell h (happen (world m s b) e .told))
 unfolding happen withState stepDue
 event-room m none b h (Event.append ks ws x y) U r = unfold tell in r
 event-room m (some s) b h (Event.append ks ws x y) U r =
-    unfold appendOf in call-room m s b h U r (beganAppend (zip ks ws)) (appendNeeds (length m) (views m) s b ks ws) _ (unfold tell in refl) (λ q. room-none (views m) _ (some _) (none-held m s b h U r (unfold tests in every-at 3 _ q)))
+    unfold appendOf in call-room m s b h U r (beganAppend (zip ks ws)) (appendNeeds (length m) (views m) s b ks ws) _ (unfold tell in refl)
+    (λ q. room-none (views m) _ (some _) (none-held m s b h U r (unfold tests in every-at 3 _ q)))
 event-room m none b h Event.commit U r = unfold tell in r
 event-room m (some s) b h Event.commit U r =
-    unfold commitOf in call-room m s b h U r beganCommit (commitNeeds (length m) (views m) s b) _ (unfold tell in refl) (λ q. room-none (views m) _ (some _) (none-held m s b h U r (unfold tests in every-at 3 _ q)))
+    unfold commitOf in call-room m s b h U r beganCommit (commitNeeds (length m) (views m) s b) _ (unfold tell in refl)
+    (λ q. room-none (views m) _ (some _) (none-held m s b h U r (unfold tests in every-at 3 _ q)))
 event-room m none b h (Event.collect k) U r = unfold tell in r
 event-room m (some s) b h (Event.collect k) U r =
-    unfold collectOf in call-room m s b h U r beganCollect (collectNeeds (length m) (views m) s b k) _ (unfold tell in refl) (λ q. room-none (views m) _ (some _) (none-held m s b h U r (unfold tests in every-at 3 _ q)))
+    unfold collectOf in call-room m s b h U r beganCollect (collectNeeds (length m) (views m) s b k) _ (unfold tell in refl)
+    (λ q. room-none (views m) _ (some _) (none-held m s b h U r (unfold tests in every-at 3 _ q)))
 event-room m none b h (Event.buffer ks ws x y) U r = unfold tell in r
 event-room m (some s) b h (Event.buffer ks ws x y) U r =
-    unfold bufferOf in buffer-room m s b h U r (putIn (zip ks ws)) (bufferNeeds (length m) (views m) s b ks ws) _ (λ q. room-met (views m) s (s .pending) (unfold tests in every-at 7 _ q) (unfold tests in every-at 8 _ q))
+    unfold bufferOf in buffer-room m s b h U r (putIn (zip ks ws)) (bufferNeeds (length m) (views m) s b ks ws) _
+    (λ q. room-met (views m) s (s .pending) (unfold tests in every-at 7 _ q) (unfold tests in every-at 8 _ q))
 event-room m none b h Event.flush U r = unfold tell in r
-event-room m (some s) b h Event.flush U r = unfold flushOf in call-room m s b h U r beganFlush (flushNeeds (length m) (views m) s b) _ (unfold tell in refl) (λ q. unfold StateRoom Room in λ k. unfold tests in every-at 7 _ q)
+event-room m (some s) b h Event.flush U r =
+    unfold flushOf in call-room m s b h U r beganFlush (flushNeeds (length m) (views m) s b) _ (unfold tell in refl) (λ q. unfold StateRoom Room in λ k. unfold tests in every-at 7 _ q)
 event-room m none b h Event.step U r = unfold stepped tell in r
 event-room m (some s) b h Event.step U r = step-room m s b h U r (stepOf (length m) (views m) s b) (step-leaves m s b h U r)
 event-room m s b h Event.recover U r = recovered-room (world m s b) h (recovery.recover (length m) (views m)) r
@@ -199,7 +204,8 @@ reached-room w h (Reached.next v g e R) = event-room (v .medium) (v .state) (v .
 
 -- ---- the flush
 
-module _ (m : List ℕ) (s : Held) (bs : List ℕ) (h : History) (U : Upheld (world m (some s) bs) h) (r : Ready (views m) s) (R : StateRoom (views m) (h .buffered) (some s)) (some-held : holdsNone bs ≡ false) where
+module _ (m : List ℕ) (s : Held) (bs : List ℕ) (h : History) (U : Upheld (world m (some s) bs) h) (r : Ready (views m) s)
+    (R : StateRoom (views m) (h .buffered) (some s)) (some-held : holdsNone bs ≡ false) where
   abbrev v : List View
   v = views m
 
@@ -231,8 +237,8 @@ module _ (m : List ℕ) (s : Held) (bs : List ℕ) (h : History) (U : Upheld (wo
   room-idle flush e x = true-false e refl
   room-idle unnamed e x = true-false e refl
 
-  begins : isIdle (s .pending) ≡ true → flushOf (length m) v s bs ≡ Call.begun (starting s flush)
-  unfolding flushOf checked
+  begins : isIdle (s .pending) ≡ true → flushOf (length m) v s bs ≡ gives (starting s flush)
+  unfolding flushOf under
   begins e =
       let k = room-idle (s .pending) e room in
       rw (U .size, fits, e, some-held, lent-groups lends, lends .allowed, lends .count, k .0, k .1)
@@ -254,30 +260,28 @@ module _ (m : List ℕ) (s : Held) (bs : List ℕ) (h : History) (U : Upheld (wo
   room-flush p q x = rw q at x
 
   step-is : isIdle (s .pending) ≡ false → stepOf (length m) v s bs ≡ erasedFirst v s (flushStep v s (bufferedIn bs))
-  unfolding stepOf checked
+  unfolding stepOf under
   step-is e = rw (U .size, fits, e) (ap (λ (p : Pending). erasedFirst v s (due v s (bufferedIn bs) p)) (pends e) ∙ (unfold due in refl))
 
   -- its page is not refused: 14 is met, and 16 is never answered
-  page-is : (c : Bool) (st : Step) → isClean (seen v (pageDue v (s .head))) ≡ c → serialsFor (s .head) 1 ≡ true → flushStep v s (bufferedIn bs) ≡ st → (n : ℕ) → st ≡ Step.refused n → n ≡ 16
-  unfolding flushStep programming checked
-  page-is true st d f x n q = let z : Step.program (pageDue v (s .head)) _ _ true ≡ Step.refused n = rw (f, d) at (x ∙ q) in let y : _≡_ {A = ℕ} 0 1 = cc in absurd (omega arith)
-  page-is false st d f x n q = let z : Step.refused 16 ≡ Step.refused n = rw (f, d) at (x ∙ q) in sym (number 16 n z)
-    where
-      number : (a b : ℕ) → Step.refused a ≡ Step.refused b → a ≡ b
-      number a b e = cc
+  page-is : (c : Bool) (st : Answer Step) → isClean (seen v (pageDue v (s .head))) ≡ c → serialsFor (s .head) 1 ≡ true → flushStep v s (bufferedIn bs) ≡ st → (n : ℕ) → st ≡ refused n → n ≡ 16
+  unfolding flushStep programming under
+  page-is true st d f x n q = given-refused (Step.program (pageDue v (s .head)) _ _ true) n (rw (f, d) at (x ∙ q))
+  page-is false st d f x n q = sym (same-refusal 16 n (rw (f, d) at (x ∙ q)))
 
-  steps : Answers m s bs → isIdle (s .pending) ≡ false → (n : ℕ) → stepOf (length m) v s bs ≡ Step.refused n → ⊥
+  steps : Answers m s bs → isIdle (s .pending) ≡ false → (n : ℕ) → stepOf (length m) v s bs ≡ refused n → ⊥
   unfolding erasedFirst
   steps A e n q =
       by-cases (needsErase v s)
-      (λ c. let z : Step.erase (newHead v (s .head)) (erasing s (newHead v (s .head)) (s .pending)) false ≡ Step.refused n = rw c at (sym (step-is e) ∙ q) in let y : _≡_ {A = ℕ} 0 1 = cc in omega arith)
+      (λ c. given-refused (Step.erase (newHead v (s .head)) (erasing s (newHead v (s .head)) (s .pending)) false) n (rw c at (sym (step-is e) ∙ q)))
       (λ c.
-      let z : flushStep v s (bufferedIn bs) ≡ Step.refused n = rw c at (sym (step-is e) ∙ q) in
-      let k : n ≡ 16 = page-is _ (Step.refused n) refl (room-flush (s .pending) (pends e) room) z n refl in
+      let z : flushStep v s (bufferedIn bs) ≡ refused n = rw c at (sym (step-is e) ∙ q) in
+      let k : n ≡ 16 = page-is _ (refused n) refl (room-flush (s .pending) (pends e) room) z n refl in
       let x : expected 16 ≡ true = rw k at (A .step n q) in
       true-false x (unfold expected every in refl))
 
-answers : (m : List ℕ) (o : Option Held) (bs : List ℕ) (h : History) (s : Held) → Upheld (world m o bs) h → StateReady (views m) o → StateRoom (views m) (h .buffered) o → o ≡ some s → holdsNone bs ≡ false → Answers m s bs → CanFlush m s bs
+answers : (m : List ℕ) (o : Option Held) (bs : List ℕ) (h : History) (s : Held) → Upheld (world m o bs) h → StateReady (views m) o
+    → StateRoom (views m) (h .buffered) o → o ≡ some s → holdsNone bs ≡ false → Answers m s bs → CanFlush m s bs
 unfolding StateReady
 answers m none bs h s U r R e k A = let z : _≡_ {A = ℕ} 0 1 = cc in absurd (omega arith)
 answers m (some t) bs h s U r R e k A =

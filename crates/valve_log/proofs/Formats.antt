@@ -12,7 +12,7 @@ use lib.Dec.{ltb}
 use lib.ListN.{length, getD, set, replicate, length-replicate, getD-replicate}
 use borrow.Author.Tests.{ltb-true, ltb-false}
 use Rattle.lists.specs.Lists.{all, every, keep, Bytes}
-use Rattle.lists.specs.Needs.{Need, need, checked}
+use Rattle.lists.specs.Needs.{Answer, refused, gives, Need, need, under, checked}
 use Rattle.lists.proofs.Laws.{by-cases, true-false, every-at, tests, checked-cases}
 use Rattle.codec.specs.Codec.{blank}
 use Rattle.codec.proofs.Put.{length-blank, get-blank, bytes-blank, bytes-put}
@@ -28,9 +28,9 @@ use Rattle.blocks.specs.Blocks.{sizeOk}
 use Rattle.nodes.specs.Nodes.{sound, words}
 use Rattle.index.specs.Index.{risingFrom, rising}
 use Rattle.state.specs.State.{idle, append, commit, collect, format, Held, held, noneErased, nowErased, isIdle}
-use Rattle.recovery.specs.Recovery.{placed, wholes, allLawful, distinct, insert, sort, goesOn, startsGroup, baseOf, reaches, from, consecutive, group, joined, begun, enter, walk, groupsOf, logOf, pagesOf, enterAll, enterPage, enterPages, Recovery, logOfGroup}
+use Rattle.recovery.specs.Recovery.{placed, wholes, allLawful, distinct, insert, sort, goesOn, startsGroup, baseOf, reaches, from, consecutive, group, joined, begun, enter, walk, groupsOf, logOf, pagesOf, enterAll, enterPage, enterPages, Recovery, entersLog, logOfGroup}
 use Rattle.recovery.specs.Recovery
-use Rattle.calls.specs.Calls.{Call, zip, appendOf, commitOf, collectOf, formatting, formatOf, Buffering, bufferOf, flushOf}
+use Rattle.calls.specs.Calls.{zip, appendOf, commitOf, collectOf, formatting, formatOf, bufferOf, flushOf}
 use Rattle.calls.proofs.Laws.{formatState}
 use Rattle.step.specs.Step.{Step, formatted, erasing, programming, formatStep, due, programsDue, needsErase, erasedFirst, stepOf, mediumAfter}
 use Rattle.valve_log.specs.History.{start, Told, beganAppend, beganCommit, beganCollect, putIn, beganFlush}
@@ -55,26 +55,26 @@ pub record InFormat (m : List ℕ) (s : Option Held) : Type 0 where
   pub state : s ≡ some (formatState (length m / 4096) done erased)
   pub blanks : (i : ℕ) → i < 4096 * done → getD m i 0 ≡ 255
 
-begun-is : (n : ℕ) (s : Held) → formatOf n ≡ Call.begun s → (sizeOk n ≡ true) × (s ≡ formatting (n / 4096))
-unfolding formatOf checked
+begun-is : (n : ℕ) (s : Held) → formatOf n ≡ gives s → (sizeOk n ≡ true) × (s ≡ formatting (n / 4096))
+unfolding formatOf under
 begun-is n s e =
     by-cases (sizeOk n)
-    (λ t. let f : Call.begun (formatting (n / 4096)) ≡ Call.begun s = rw t at e in (t, cc))
-    (λ t. let f : Call.refused 1 ≡ Call.begun s = rw t at e in let z : _≡_ {A = ℕ} 0 1 = cc in absurd (omega arith))
+    (λ t. let f : gives (formatting (n / 4096)) ≡ gives s = rw t at e in (t, cc))
+    (λ t. let f : refused 1 ≡ gives s = rw t at e in let z : _≡_ {A = ℕ} 0 1 = cc in absurd (omega arith))
 
 not-idle : (k : ℕ) → isIdle (format k) ≡ false
 unfolding isIdle
 not-idle k = refl
 
 -- a call whose third condition, 8, is not met is refused
-busy : (w : World) (t : Told) (a b c : Need) (cs : List Need) (s′ : Held) → c .holds ≡ false → called w t (checked Call.refused (a ∷ b ∷ c ∷ cs) (Call.begun s′)) ≡ still w
+busy : (w : World) (t : Told) (a b c : Need) (cs : List Need) (s′ : Held) → c .holds ≡ false → called w t (checked (a ∷ b ∷ c ∷ cs) s′) ≡ still w
 busy w t a b c cs s′ e =
-    checked-cases (λ (r : Call). called w t r ≡ still w) Call.refused (a ∷ b ∷ c ∷ cs) (Call.begun s′) (λ n. unfold called in refl)
+    checked-cases (λ (r : Answer Held). called w t r ≡ still w) (a ∷ b ∷ c ∷ cs) (gives s′) (λ n. unfold called in refl)
     (λ f. let g : c .holds ≡ true = unfold tests in every-at 2 _ f in true-false g e)
 
-busy-buffer : (w : World) (t : Told) (a b c : Need) (cs : List Need) (bs : List ℕ) → c .holds ≡ false → filled w t (checked Buffering.refused (a ∷ b ∷ c ∷ cs) (Buffering.buffered bs)) ≡ still w
+busy-buffer : (w : World) (t : Told) (a b c : Need) (cs : List Need) (bs : List ℕ) → c .holds ≡ false → filled w t (checked (a ∷ b ∷ c ∷ cs) bs) ≡ still w
 busy-buffer w t a b c cs bs e =
-    checked-cases (λ (r : Buffering). filled w t r ≡ still w) Buffering.refused (a ∷ b ∷ c ∷ cs) (Buffering.buffered bs) (λ n. unfold filled in refl)
+    checked-cases (λ (r : Answer (List ℕ)). filled w t r ≡ still w) (a ∷ b ∷ c ∷ cs) (gives bs) (λ n. unfold filled in refl)
     (λ f. let g : c .holds ≡ true = unfold tests in every-at 2 _ f in true-false g e)
 
 -- ---- one event more
@@ -106,25 +106,25 @@ module _ (m : List ℕ) (bs : List ℕ) (k : ℕ) (e : List Bool) (size : sizeOk
       go i x there (yes y) = erase-outside m k there i (inl y) ∙ blanks i y
       go i x there (no y) = let j : 4096 * k + (i - 4096 * k) ≡ i = omega arith in rw j at (erase-inside m k there (i - 4096 * k) (omega arith))
 
-  Keeps : Step → Type 0
+  Keeps : Answer Step → Type 0
   Keeps st = not (finishes st) ≡ true → InFormat (stepped here st .after .medium) (stepped here st .after .state)
 
-  refused-keeps : (n : ℕ) → Keeps (Step.refused n)
+  refused-keeps : (n : ℕ) → Keeps (refused n)
   unfolding Keeps stepped
   refused-keeps n f = same
 
   step-keeps : Keeps (stepOf (length m) (views m) (formatState (length m / 4096) k e) bs)
   unfolding stepOf due formatStep formatting programsDue needsErase every erasedFirst
   step-keeps =
-      checked-cases Keeps Step.refused _ _ refused-keeps
+      checked-cases Keeps _ _ refused-keeps
       (λ c. by-cases (ltb k (length m / 4096))
       (λ h. rw h (unfold Keeps stepped mediumAfter in (λ f. one-more (ltb-true k (length m / 4096) h))))
-      (λ h. rw h (unfold programming in checked-cases Keeps Step.refused _ _ refused-keeps (λ g. unfold Keeps finishes in (λ f. true-false f refl)))))
+      (λ h. rw h (unfold programming in checked-cases Keeps _ _ refused-keeps (λ g. unfold Keeps finishes in (λ f. true-false f refl)))))
 
-  recover-keeps : (r : Recovery) → not (accepted r) ≡ true → InFormat (recovered here r .after .medium) (recovered here r .after .state)
+  recover-keeps : (r : Answer Recovery) → not (accepted r) ≡ true → InFormat (recovered here r .after .medium) (recovered here r .after .state)
   unfolding accepted recovered
-  recover-keeps (Recovery.refused n) e = same
-  recover-keeps (Recovery.recovered log s) e = true-false e refl
+  recover-keeps (refused n) e = same
+  recover-keeps (gives x) e = true-false e refl
 
   event-keeps : (e : Event here) → meanwhile here e ≡ true → InFormat (happen here e .after .medium) (happen here e .after .state)
   unfolding happen meanwhile withState stepDue
@@ -177,7 +177,7 @@ start-sound k =
       based = unfold baseOf startsGroup goesOn begins ends every Rattle.lists.specs.Lists.isSome in refl;
       walks = unfold walk enter begun joined begins ends groupsOf in refl;
       replays = unfold pagesOf enterPages enterPage enterAll in refl;
-      logs = unfold logOf logOfGroup in refl;
+      logs = unfold logOf logOfGroup entersLog in refl;
       sounds = unfold sound all in refl;
       shows = unfold words in refl;
       tidy = record { rise = unfold rising risingFrom in refl; valve = unfold valves all in refl; count = omega arith };
@@ -208,10 +208,10 @@ pub record Begins (w : World) : Type 0 where
 
 -- the step that finishes: all blocks are erased, and the base goes to page 0
 module _ (m : List ℕ) (bs : List ℕ) (k : ℕ) (e : List Bool) (size : sizeOk (length m) ≡ true) (bytes : Bytes m) (few : k ≤ length m / 4096) (blanks : (i : ℕ) → i < 4096 * k → getD m i 0 ≡ 255) where
-  Ends : Step → Type 0
+  Ends : Answer Step → Type 0
   Ends st = finishes st ≡ true → Begins (lentAnew (stepped (here m bs k e size bytes few blanks) st .after))
 
-  refused-ends : (n : ℕ) → Ends (Step.refused n)
+  refused-ends : (n : ℕ) → Ends (refused n)
   unfolding Ends finishes
   refused-ends n f = true-false f refl
 
@@ -231,7 +231,8 @@ module _ (m : List ℕ) (bs : List ℕ) (k : ℕ) (e : List Bool) (size : sizeOk
     views-clean =
         let r = length-replicate {A = View} (length m / 256) clean in
         views-same (views m) (replicate (length m / 256) clean) (length-views m ∙ sym r)
-        (λ p h. seen-views m p ∙ ap viewOf (blank-page p (omega (arith, length-views m))) ∙ blank-clean ∙ sym (unfold seen in getD-replicate {A = View} (length m / 256) p clean spoilt (omega (arith, length-views m))))
+        (λ p h. seen-views m p ∙ ap viewOf (blank-page p (omega (arith, length-views m))) ∙ blank-clean
+        ∙ sym (unfold seen in getD-replicate {A = View} (length m / 256) p clean spoilt (omega (arith, length-views m))))
 
     base-lawful : lawful basePage ≡ true
     unfolding lawful ruled all every leastCount mayCarry serialOk marksOk
@@ -274,10 +275,10 @@ module _ (m : List ℕ) (bs : List ℕ) (k : ℕ) (e : List Bool) (size : sizeOk
   step-ends : Ends (stepOf (length m) (views m) (formatState (length m / 4096) k e) bs)
   unfolding stepOf due formatStep formatting formatted programsDue needsErase every erasedFirst
   step-ends =
-      checked-cases Ends Step.refused _ _ refused-ends
+      checked-cases Ends _ _ refused-ends
       (λ c. by-cases (ltb k (length m / 4096))
       (λ h. rw h (unfold Ends finishes in (λ f. true-false f refl)))
-      (λ h. rw h (unfold programming in checked-cases Ends Step.refused _ _ refused-ends (λ g. unfold Ends stepped mediumAfter in (λ f. finished (ltb-false k (length m / 4096) h))))))
+      (λ h. rw h (unfold programming in checked-cases Ends _ _ refused-ends (λ g. unfold Ends stepped mediumAfter in (λ f. finished (ltb-false k (length m / 4096) h))))))
 
 abbrev Starts : List ℕ → List ℕ → Option Held → Type 0
 Starts m b s = finishes (stepDue (world m s b)) ≡ true → Begins (lentAnew (happen (world m s b) Event.step .after))

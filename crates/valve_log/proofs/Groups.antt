@@ -57,7 +57,8 @@ pub page-most : (kind : ℕ) (es : List Entry) (k s : ℕ) → length (groupPage
 unfolding groupPage
 page-most kind es k s = omega (arith, part-length es k)
 
-lawful-page : (kind flags s : ℕ) (es : List Entry) → eqb kind 4 ≡ false → leastCount kind flags ≤ length es → all (entryOk kind) es ≡ true → 1 ≤ s → s + 1 ≤ 2 ^ 64 - 1 → lawful (page kind flags s es) ≡ true
+lawful-page : (kind flags s : ℕ) (es : List Entry) → eqb kind 4 ≡ false → leastCount kind flags ≤ length es
+    → all (entryOk kind) es ≡ true → 1 ≤ s → s + 1 ≤ 2 ^ 64 - 1 → lawful (page kind flags s es) ≡ true
 unfolding lawful ruled every serialOk marksOk
 lawful-page kind flags s es k n e p q =
     let m : s ≤ 2 ^ 64 - 2 = omega arith in
@@ -128,7 +129,8 @@ lawful-moves es s r n p q = lawful-page 3 3 s es refl (unfold leastCount mayCarr
 
 -- ---- a group laid out
 
-pub lay-snoc : (kind : ℕ) (es : List Entry) (k s : ℕ) (ps : List ℕ) (p : ℕ) → lay kind es k s (ps ++ (p ∷ [])) ≡ lay kind es k s ps ++ (placed p (groupPage kind es (k + length ps) (s + length ps)) ∷ [])
+pub lay-snoc : (kind : ℕ) (es : List Entry) (k s : ℕ) (ps : List ℕ) (p : ℕ)
+    → lay kind es k s (ps ++ (p ∷ [])) ≡ lay kind es k s ps ++ (placed p (groupPage kind es (k + length ps) (s + length ps)) ∷ [])
 unfolding lay
 lay-snoc kind es k s [] p = rw (add-zero k, add-zero s)
 lay-snoc kind es k s (q ∷ ps) p = rw (shift k (length ps), shift s (length ps), lay-snoc kind es (suc k) (suc s) ps p)
@@ -178,7 +180,8 @@ enter-begin (between gs′) gs x g b = rw b (ap (λ (l : List Group). begun l x)
 enter-begin (inside gs′ k pages) gs x g b = rw b (ap (λ (l : List Group). begun l x) (cc))
 enter-begin stray gs x g b = let z : _≡_ {A = ℕ} 0 1 = cc in absurd (omega arith)
 
-pub enter-more : (gs : List Group) (k : ℕ) (pages : List Placed) (x : Placed) → begins (x .page) ≡ false → kindOf x ≡ k → (k ≡ 1 → length pages < 4) → enter (inside gs k pages) x ≡ joined gs k (pages ++ (x ∷ [])) (ends (x .page))
+pub enter-more : (gs : List Group) (k : ℕ) (pages : List Placed) (x : Placed) → begins (x .page) ≡ false → kindOf x ≡ k
+    → (k ≡ 1 → length pages < 4) → enter (inside gs k pages) x ≡ joined gs k (pages ++ (x ∷ [])) (ends (x .page))
 unfolding enter continues
 enter-more gs k pages x b e h =
     by-cases (eqb k 1)
@@ -193,7 +196,8 @@ enter-page kind w gs es s₀ s [] p g unopened h =
     enter-begin w gs (placed p (groupPage kind es 0 s)) g (begins-page kind es 0 s) ∙ (unfold begun groupPage in ap (joined gs kind (placed p (groupPage kind es 0 s) ∷ [])) (ends-page kind es 0 s))
 enter-page kind w gs es s₀ s (q ∷ ps) p g (opened e) h =
     rw e
-    (enter-more gs kind (lay kind es 0 s₀ (q ∷ ps)) (placed p (groupPage kind es (suc (length ps)) s)) (begins-page kind es (suc (length ps)) s ∙ ne-eqb (suc (length ps)) 0 (λ c. omega arith)) (unfold groupPage in refl) (λ k. omega (arith, h k, lay-length kind es 1 (suc s₀) ps))
+    (enter-more gs kind (lay kind es 0 s₀ (q ∷ ps)) (placed p (groupPage kind es (suc (length ps)) s))
+    (begins-page kind es (suc (length ps)) s ∙ ne-eqb (suc (length ps)) 0 (λ c. omega arith)) (unfold groupPage in refl) (λ k. omega (arith, h k, lay-length kind es 1 (suc s₀) ps))
     ∙ ap (joined gs kind (lay kind es 0 s₀ (q ∷ ps) ++ (placed p (groupPage kind es (suc (length ps)) s) ∷ []))) (ends-page kind es (suc (length ps)) s))
 
 pub opened-any : (kind : ℕ) {w : Walk} {gs : List Group} (pages : List Placed) → 1 ≤ length pages → w ≡ inside gs kind pages → Opened kind w gs pages

@@ -141,7 +141,8 @@ in-words v first = first
 in-words v (later i) = later (in-words v i)
 
 -- moving a list of nodes, each with its own word
-pub move-same : (v : List View) (s moves : List Cell) → rising s ≡ true → ((x : Cell) → In x moves → In (cell (x .key) (valueOr 0 (wordAt v x))) s) → valves moves ≡ true → assignAll s (words v moves) ≡ s
+pub move-same : (v : List View) (s moves : List Cell) → rising s ≡ true → ((x : Cell) → In x moves → In (cell (x .key) (valueOr 0 (wordAt v x))) s)
+    → valves moves ≡ true → assignAll s (words v moves) ≡ s
 unfolding words assignAll valves
 move-same v s [] r h b = refl
 move-same v s (x ∷ moves) r h b =
@@ -154,7 +155,8 @@ words-in v s [] h i = in-none i
 words-in v s (x ∷ l) h first = h x first
 words-in v s (x ∷ l) h (later i) = words-in v s l (λ z j. h z (later j)) i
 
-pub move-within : (v : List View) (s moves : List Cell) → rising s ≡ true → length s ≤ mostValves → ((x : Cell) → In x moves → In (cell (x .key) (valueOr 0 (wordAt v x))) s) → valves moves ≡ true → within s (words v moves) ≡ true
+pub move-within : (v : List View) (s moves : List Cell) → rising s ≡ true → length s ≤ mostValves
+    → ((x : Cell) → In x moves → In (cell (x .key) (valueOr 0 (wordAt v x))) s) → valves moves ≡ true → within s (words v moves) ≡ true
 unfolding valves
 move-within v s moves r n h b = members-within s (words v moves) r n (λ y i. words-in v s moves h i) (valves-words v moves ∙ b)
 
@@ -194,4 +196,8 @@ unfolding assignAll within
 tidy-assign l [] w t = t
 tidy-assign l (e ∷ es) w t =
     tidy-assign (assign l e) es (and-r (leb (length (assign l e)) mostValves) (within (assign l e) es) w)
-    (record { rise = assign-rising l e (t .rise); valve = assign-valves l e (t .valve); count = leb-true (length (assign l e)) mostValves (and-l (leb (length (assign l e)) mostValves) (within (assign l e) es) w) })
+    (record {
+      rise = assign-rising l e (t .rise);
+      valve = assign-valves l e (t .valve);
+      count = leb-true (length (assign l e)) mostValves (and-l (leb (length (assign l e)) mostValves) (within (assign l e) es) w);
+    })

@@ -6,7 +6,7 @@ use mathlib.Core.List.{List, [], _∷_, _++_, append-assoc, append-nil}
 use Prim.Native.Nat.{ℕ, zero, suc, _+_, _≤_}
 use native.Mathlib.Omega.{arith}
 use lib.ListN.{length, length-append}
-use borrow.Author.Tests.{le-leb}
+use borrow.Author.Tests.{le-leb, ne-eqb}
 use Rattle.lists.specs.Lists.{all, every, valueOr}
 use Rattle.lists.specs.Cells.{Entry, Place, keysOf, wordsOf}
 use Rattle.lists.proofs.Laws.{true-false, and-both, below-nil, below-append, every-at, all-head, all-tail, all-cons, all-snoc, all-weaken}
@@ -189,9 +189,10 @@ lent-more {s} {b} {h} L es i S one few r w =
 
 flush-fit : (index : List Place) (gs : List (List Entry)) → entriesAllowed (changesOf gs) ≡ true → 1 ≤ length gs → within index (changesOf gs) ≡ true → flushOk index gs ≡ true
 unfolding flushOk every
-flush-fit index gs F n w = rw (le-leb 1 (length gs) n, F, w)
+flush-fit index gs F n w = rw (ne-eqb (length gs) 0 (λ z. omega arith), F, w)
 
-groups-fit : (index : List Place) (p : Pending) (u : UnderWay) (gs : List (List Entry)) → entriesAllowed (changesOf gs) ≡ true → within index (changesOf gs) ≡ true → Beside p u gs → groupsFit index p gs ≡ true
+groups-fit : (index : List Place) (p : Pending) (u : UnderWay) (gs : List (List Entry)) → entriesAllowed (changesOf gs) ≡ true
+    → within index (changesOf gs) ≡ true → Beside p u gs → groupsFit index p gs ≡ true
 unfolding groupsFit Beside
 groups-fit index idle u gs F w B = refl
 groups-fit index (append es ps) u gs F w B = refl

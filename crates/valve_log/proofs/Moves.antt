@@ -10,6 +10,7 @@ use lib.Dec.{leb, ltb, eqb}
 use borrow.Author.Tests.{eqb-true, le-ltb, eq-eqb, ne-eqb}
 use Rattle.lists.specs.declared.Cell.{Cell}
 use Rattle.lists.specs.Lists.{all, keep}
+use Rattle.lists.specs.Needs.{under}
 use Rattle.lists.specs.Cells.{cell, Place}
 use Rattle.lists.proofs.Laws.{by-cases, all-head, all-tail, all-keep}
 use Rattle.index.specs.Index.{put, risingFrom, rising, assign, assignAll}
@@ -111,14 +112,16 @@ in-put k a {x} (y ∷ l) h i =
     under (inl e) g = rw e first
     under (inr j) g = later (g j)
 
-put-out : (b n k a a′ : ℕ) (l : List Cell) → risingFrom n l ≡ true → In (cell k a) l → inBlock b (cell k a) ≡ true → inBlock b (cell k a′) ≡ false → suc (length (keep (inBlock b) (put k a′ l))) ≡ length (keep (inBlock b) l)
+put-out : (b n k a a′ : ℕ) (l : List Cell) → risingFrom n l ≡ true → In (cell k a) l → inBlock b (cell k a) ≡ true
+    → inBlock b (cell k a′) ≡ false → suc (length (keep (inBlock b) (put k a′ l))) ≡ length (keep (inBlock b) l)
 unfolding put keep
 put-out b n k a a′ (y ∷ l) r i t f = go (in-cases i) (λ j. put-out b (suc (y .key)) k a a′ l rest j t f)
   where
     rest : risingFrom (suc (y .key)) l ≡ true
     rest = rising-tail n y l r
 
-    go : (cell k a ≡ y) ⊎ In (cell k a) l → (In (cell k a) l → suc (length (keep (inBlock b) (put k a′ l))) ≡ length (keep (inBlock b) l)) → suc (length (keep (inBlock b) (put k a′ (y ∷ l)))) ≡ length (keep (inBlock b) (y ∷ l))
+    go : (cell k a ≡ y) ⊎ In (cell k a) l → (In (cell k a) l → suc (length (keep (inBlock b) (put k a′ l))) ≡ length (keep (inBlock b) l))
+        → suc (length (keep (inBlock b) (put k a′ (y ∷ l)))) ≡ length (keep (inBlock b) (y ∷ l))
     go (inl e) ih = rw (← e, le-ltb k k (omega arith), eq-eqb k k refl, f, t)
     go (inr j) ih =
         let h : suc (y .key) ≤ k = in-above (suc (y .key)) rest j in
@@ -131,15 +134,19 @@ unfolding assign
 assign-put l e h = rw h
 
 -- to address a and on, none of them in the block
-keep-out : (b a : ℕ) (l moves : List Cell) → rising l ≡ true → ((x : Cell) → In x moves → In x l) → all (inBlock b) moves ≡ true → valves moves ≡ true → Unique moves → ((i : ℕ) → i < length moves → (a + i) / 384 ≡ b → ⊥)
+keep-out : (b a : ℕ) (l moves : List Cell) → rising l ≡ true → ((x : Cell) → In x moves → In x l) → all (inBlock b) moves ≡ true
+    → valves moves ≡ true → Unique moves → ((i : ℕ) → i < length moves → (a + i) / 384 ≡ b → ⊥)
     → length (keep (inBlock b) (assignAll l (nodes a moves))) + length moves ≡ length (keep (inBlock b) l)
 unfolding assignAll nodes valves
 keep-out b a l [] r m t c u o = omega arith
 keep-out b a l (x ∷ moves) r m t c (cons h u) o =
     let k : ltb (x .key) 32768 ≡ true = all-head (λ (y : Cell). ltb (y .key) 32768) x moves c in
     let p : assign l (cell (x .key) a) ≡ put (x .key) a l = assign-put l (cell (x .key) a) k in
-    let one : suc (length (keep (inBlock b) (put (x .key) a l))) ≡ length (keep (inBlock b) l) = put-out b 0 (x .key) (x .val) a l (unfold rising in r) (m x first) (all-head (inBlock b) x moves t) outside in
-    let ih = keep-out b (suc a) (assign l (cell (x .key) a)) moves (assign-rising l (cell (x .key) a) r) (λ y i. rw p (in-put (x .key) a l (h y i) (m y (later i)))) (all-tail (inBlock b) x moves t) (all-tail (λ (y : Cell). ltb (y .key) 32768) x moves c) u (λ i q e. o (suc i) (omega arith) (shift i e)) in
+    let one : suc (length (keep (inBlock b) (put (x .key) a l))) ≡ length (keep (inBlock b) l) =
+    put-out b 0 (x .key) (x .val) a l (unfold rising in r) (m x first) (all-head (inBlock b) x moves t) outside in
+    let ih =
+    keep-out b (suc a) (assign l (cell (x .key) a)) moves (assign-rising l (cell (x .key) a) r) (λ y i. rw p (in-put (x .key) a l (h y i) (m y (later i))))
+    (all-tail (inBlock b) x moves t) (all-tail (λ (y : Cell). ltb (y .key) 32768) x moves c) u (λ i q e. o (suc i) (omega arith) (shift i e)) in
     omega (arith, ih, one, ap (λ (z : List Cell). length (keep (inBlock b) z)) p)
   where
     outside : inBlock b (cell (x .key) a) ≡ false
@@ -152,7 +159,8 @@ keep-out b a l (x ∷ moves) r m t c (cons h u) o =
     shift i e = let z : a + suc i ≡ suc a + i = omega arith in rw z e
 
 -- to page p of another block
-pub moves-out : (b p : ℕ) (l moves : List Place) → rising l ≡ true → ((x : Cell) → In x moves → In x l) → all (inBlock b) moves ≡ true → valves moves ≡ true → Unique moves → length moves ≤ 24 → (p / 16 ≡ b → ⊥)
+pub moves-out : (b p : ℕ) (l moves : List Place) → rising l ≡ true → ((x : Cell) → In x moves → In x l)
+    → all (inBlock b) moves ≡ true → valves moves ≡ true → Unique moves → length moves ≤ 24 → (p / 16 ≡ b → ⊥)
     → length (live (assignAll l (nodes (24 * p) moves)) b) + length moves ≡ length (live l b)
 moves-out b p l moves r m t c u n o =
     omega (arith, keep-out b (24 * p) l moves r m t c u away, live-length (assignAll l (nodes (24 * p) moves)) b, live-length l b)

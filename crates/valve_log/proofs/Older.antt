@@ -7,7 +7,7 @@ use native.Mathlib.Omega.{arith}
 use lib.ListN.{length}
 use borrow.Author.Tests.{lt-leb}
 use Rattle.lists.specs.Lists.{all}
-use Rattle.lists.specs.Needs.{checked}
+use Rattle.lists.specs.Needs.{under}
 use Rattle.lists.specs.Cells.{cell}
 use Rattle.lists.proofs.Laws.{by-cases, true-false, all-head, all-tail, every-at, length-table}
 use Rattle.page.specs.Pages.{Page, View, clean, spoilt, whole}
@@ -42,7 +42,7 @@ all-seen f n (spoilt ∷ v) (suc p) pg a e = all-seen f (suc n) v p pg a e
 all-seen f n (whole x ∷ v) (suc p) pg a e = all-seen f (suc n) v p pg (all-tail (λ (x : Placed). f (x .page)) _ _ a) e
 
 pub older-answers : OlderAnswers
-unfolding OlderAnswers olderRecover checked
+unfolding OlderAnswers olderRecover under
 older-answers later answer m p pg size e k =
     by-cases (olderAll (wholes 0 (views m))) (λ a. absurd (unlawful pg k few (all-seen olderLawful 0 (views m) p pg (unfold olderAll in a) e))) (λ a. rw (size, a))
   where

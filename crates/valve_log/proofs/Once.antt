@@ -6,6 +6,8 @@ use mathlib.Core.List.{List, [], _∷_}
 use Prim.Native.Nat.{ℕ, _<_}
 use native.Mathlib.Omega.{arith}
 use lib.ListN.{length}
+use lib.Dec.{ltb}
+use Rattle.lists.specs.Needs.{Answer, refused, gives}
 use Rattle.lists.specs.Cells.{Entry, Place}
 use Rattle.lists.proofs.Laws.{by-cases, true-false, checked-cases}
 use Rattle.page.specs.Pages.{Page, View}
@@ -15,7 +17,7 @@ use Rattle.blocks.specs.Blocks.{newHead}
 use Rattle.nodes.specs.Nodes.{live}
 use Rattle.state.specs.State.{Pending, idle, append, commit, collect, format, flush, unnamed, Held, wasErased, bufferedIn}
 use Rattle.state.proofs.Records.{now-was}
-use Rattle.step.specs.Step.{Step, erasing, programming, appendStep, commitStep, moveStep, collectStep, flushStep, due, needsErase, stepOf, mediumAfter}
+use Rattle.step.specs.Step.{Step, erasing, programming, appendStep, commitStep, moveStep, collectStep, flushStep, due, programsDue, needsErase, erasedFirst, stepOf, mediumAfter, bufferAfter}
 use Rattle.step.proofs.Laws.{NeedsErase, needs-erase, first-cases}
 use Rattle.valve_log.specs.History.{History}
 use Rattle.valve_log.specs.Reached.{world, withState, stepDue, stepped, happen}
@@ -38,25 +40,25 @@ record First (v : List View) (s : Held) (b : ℕ) (t : Held) : Type 0 where
   named : b ≡ newHead v (s .head)
   after : t ≡ erasing s b (s .pending)
 
-unfoldable Unfinished : List View → Held → Step → Type 0
-Unfinished v s (Step.refused n) = Unit {0}
-Unfinished v s (Step.program p pg t f) = Unit {0}
-Unfinished v s (Step.erase b t true) = Unit {0}
-Unfinished v s (Step.erase b t false) = First v s b t
+unfoldable Unfinished : List View → Held → Answer Step → Type 0
+Unfinished v s (refused n) = Unit {0}
+Unfinished v s (gives (Step.program p pg t f)) = Unit {0}
+Unfinished v s (gives (Step.erase b t true)) = Unit {0}
+Unfinished v s (gives (Step.erase b t false)) = First v s b t
 
 module _ (v : List View) (s : Held) where
-  refused-no : (n : ℕ) → Unfinished v s (Step.refused n)
+  refused-no : (n : ℕ) → Unfinished v s (refused n)
   unfolding Unfinished
   refused-no n = tt
 
   programming-no : (h : Head) (p : ℕ) (pg : Page) (t : Held) (f : Bool) → Unfinished v s (programming v h p pg t f)
   unfolding programming
-  programming-no h p pg t f = checked-cases (Unfinished v s) Step.refused _ _ refused-no (λ e. unfold Unfinished in tt)
+  programming-no h p pg t f = checked-cases (Unfinished v s) _ _ refused-no (λ e. unfold Unfinished in tt)
 
   collect-one : (b : ℕ) (l : List Place) → Unfinished v s (collectStep v s b l)
   unfolding collectStep
   collect-one b [] = unfold Unfinished in tt
-  collect-one b (x ∷ xs) = unfold moveStep in checked-cases (Unfinished v s) Step.refused _ _ refused-no (λ e. programming-no _ _ _ _ _)
+  collect-one b (x ∷ xs) = unfold moveStep in checked-cases (Unfinished v s) _ _ refused-no (λ e. programming-no _ _ _ _ _)
 
   due-one : (gs : List (List Entry)) (pend : Pending) → s .pending ≡ pend → Ready v s → Unfinished v s (due v s gs pend)
   unfolding due
@@ -71,16 +73,52 @@ module _ (v : List View) (s : Held) where
 step-one : (n : ℕ) (v : List View) (s : Held) (bs : List ℕ) → Ready v s → Unfinished v s (stepOf n v s bs)
 unfolding stepOf
 step-one n v s bs r =
-    checked-cases (Unfinished v s) Step.refused _ _ (refused-no v s)
+    checked-cases (Unfinished v s) _ _ (refused-no v s)
     (λ e. first-cases (Unfinished v s) v s (due v s (bufferedIn bs) (s .pending)) (λ q. unfold Unfinished in record { needs = q; named = refl; after = refl }) (λ q. due-one v s (bufferedIn bs) (s .pending) refl r))
 
--- the theorem
+-- ---- a step that is no erase
 
-once-at : (m : List ℕ) (o : Option Held) (bs : List ℕ) (h : History) (weak : Weak) (b : ℕ) (t : Held) → Upheld (world m o bs) h → StateReady (views m) o → Kept weak o → stepDue (world m o bs) ≡ Step.erase b t false
-    → needsErase (views (stepped (world m o bs) (stepDue (world m o bs)) .after .medium)) t ≡ false
+unfoldable NoErase : Answer Step → Type 0
+NoErase (refused n) = Unit {0}
+NoErase (gives (Step.program p pg t f)) = Unit {0}
+NoErase (gives (Step.erase b t f)) = ⊥
+
+refused-none : (n : ℕ) → NoErase (refused n)
+unfolding NoErase
+refused-none n = tt
+
+-- where the operation programs the page due, and no erase precedes it
+module _ (v : List View) (s : Held) where
+  programming-none : (h : Head) (p : ℕ) (pg : Page) (t : Held) (f : Bool) → NoErase (programming v h p pg t f)
+  unfolding programming
+  programming-none h p pg t f = checked-cases NoErase _ _ refused-none (λ e. unfold NoErase in tt)
+
+  collect-none : (b : ℕ) (l : List Place) → ltb 0 (length l) ≡ true → NoErase (collectStep v s b l)
+  unfolding collectStep
+  collect-none b [] e = true-false e refl
+  collect-none b (x ∷ xs) e = unfold moveStep in checked-cases NoErase _ _ refused-none (λ q. programming-none _ _ _ _ _)
+
+  due-none : (gs : List (List Entry)) (pend : Pending) → programsDue (s .index) pend ≡ true → NoErase (due v s gs pend)
+  unfolding due programsDue
+  due-none gs idle e = refused-none 9
+  due-none gs (append es ps) e = unfold appendStep in programming-none _ _ _ _ _
+  due-none gs (commit k) e = unfold commitStep in programming-none _ _ _ _ _
+  due-none gs (collect b) e = collect-none b (live (s .index) b) e
+  due-none gs (format n) e = true-false e refl
+  due-none gs flush e = unfold flushStep in programming-none _ _ _ _ _
+  due-none gs unnamed e = refused-none 7
+
+step-none : (n : ℕ) (v : List View) (s : Held) (bs : List ℕ) → programsDue (s .index) (s .pending) ≡ true → needsErase v s ≡ false → NoErase (stepOf n v s bs)
+unfolding stepOf erasedFirst
+step-none n v s bs p q = checked-cases NoErase _ _ refused-none (λ e. rw q (due-none v s (bufferedIn bs) (s .pending) p))
+
+-- ---- the theorem
+
+once-at : (m : List ℕ) (o : Option Held) (bs : List ℕ) (h : History) (weak : Weak) (b : ℕ) (t : Held) → Upheld (world m o bs) h → StateReady (views m) o → Kept weak o → stepDue (world m o bs) ≡ gives (Step.erase b t false)
+    → NoErase (stepDue (stepped (world m o bs) (stepDue (world m o bs)) .after))
 unfolding stepDue withState StateReady Kept
 once-at m none bs h weak b t U r K e = let z : _≡_ {A = ℕ} 0 1 = cc in absurd (omega arith)
-once-at m (some s) bs h weak b t U r K e = rw e (unfold stepped mediumAfter in goes)
+once-at m (some s) bs h weak b t U r K e = rw e (unfold stepped mediumAfter bufferAfter in step-none (length (erased m b)) (views (erased m b)) t bs programs goes)
   where
     first : First (views m) s b t
     first = unfold Unfinished in (rw e at (step-one (length m) (views m) s bs r))
@@ -94,6 +132,15 @@ once-at m (some s) bs h weak b t U r K e = rw e (unfold stepped mediumAfter in g
     goes : needsErase (views (erased m b)) t ≡ false
     goes = rw (same, first .after, first .named) (recorded (views m) _ (unfold erasing in now-was (s .erased) (newHead (views m) (s .head)) few))
 
+    programs : programsDue (t .index) (t .pending) ≡ true
+    programs = rw (first .after) (unfold erasing in first .needs .programs)
+
+no-erase : (x : Answer Step) (c : ℕ) (t : Held) (finished : Bool) → NoErase x → x ≡ gives (Step.erase c t finished) → ⊥
+unfolding NoErase
+no-erase x c t finished z e = rw e at z
+
 pub once : ErasedOnce
 unfolding ErasedOnce happen
-once w h b s R e = once-at (w .medium) (w .state) (w .buffer) h (weakIn (λ c. false) w h R) b s (reached-upheld w h R) (reached-ready w h R) (list-kept (λ c. false) w h R) e
+once w h b s R e c t finished =
+    no-erase _ c t finished
+    (once-at (w .medium) (w .state) (w .buffer) h (weakIn (λ c. false) w h R) b s (reached-upheld w h R) (reached-ready w h R) (list-kept (λ c. false) w h R) e)

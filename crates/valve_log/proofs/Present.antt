@@ -44,7 +44,8 @@ present-set {v} p y e (cons {x = x} {l = l} q r) =
 
 -- ---- one page
 
-node-word : (v : List View) (x : Placed) (l : List Entry) (e : Entry) (r : List Entry) → Present v x → x .page .entries ≡ l ++ (e ∷ r) → wordAt v (cell (e .key) (24 * x .at + length l)) ≡ some (e .val)
+node-word : (v : List View) (x : Placed) (l : List Entry) (e : Entry) (r : List Entry) → Present v x
+    → x .page .entries ≡ l ++ (e ∷ r) → wordAt v (cell (e .key) (24 * x .at + length l)) ≡ some (e .val)
 unfolding wordAt nodeIn entryIn wordFor
 node-word v x l e r p q =
     let n = length-append l (e ∷ r) in
@@ -79,7 +80,11 @@ unfolding nodesOf entriesOf assignAll
 group-words v [] l nil = refl
 group-words v (x ∷ g) l (cons p r) =
     let z : 24 * x .at ≡ 24 * x .at + 0 = omega arith in
-    rw (assign-append l (nodes (24 * x .at) (x .page .entries)) (nodesOf g), assign-append (words v l) (x .page .entries) (entriesOf g), group-words v g (assignAll l (nodes (24 * x .at) (x .page .entries))) r)
+    rw (
+      assign-append l (nodes (24 * x .at) (x .page .entries)) (nodesOf g),
+      assign-append (words v l) (x .page .entries) (entriesOf g),
+      group-words v g (assignAll l (nodes (24 * x .at) (x .page .entries))) r,
+    )
     (ap (λ (t : List Place). assignAll t (entriesOf g)) (ap (λ (n : ℕ). words v (assignAll l (nodes n (x .page .entries)))) z ∙ nodes-words v x p [] (x .page .entries) l refl))
 
 pub group-sound : (v : List View) (g : List Placed) (l : List Place) → PresentAll v g → sound v l ≡ true → sound v (assignAll l (nodesOf g)) ≡ true

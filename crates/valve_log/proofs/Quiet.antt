@@ -6,6 +6,7 @@ use mathlib.Core.List.{List}
 use Prim.Native.Nat.{ℕ}
 use native.Mathlib.Omega.{arith}
 use lib.ListN.{length}
+use Rattle.lists.specs.Needs.{Answer, refused, gives}
 use Rattle.page.specs.Pages.{View}
 use Rattle.flash.specs.Medium.{views, programmed}
 use Rattle.state.specs.State.{Pending, collect, Held}
@@ -45,27 +46,27 @@ page-nothing : (h : History) → h .underWay ≡ collecting → tell h steppedPa
 unfolding tell counted
 page-nothing h u = rw u
 
-step-nothing : (w : World) (h : History) → h .underWay ≡ collecting → (st : Step) → tell h (stepped w st .told) ≡ h
+step-nothing : (w : World) (h : History) → h .underWay ≡ collecting → (st : Answer Step) → tell h (stepped w st .told) ≡ h
 unfolding stepped
-step-nothing w h u (Step.refused n) = unfold tell in refl
-step-nothing w h u (Step.program p pg s f) = page-nothing h u
-step-nothing w h u (Step.erase b s f) = unfold tell in refl
+step-nothing w h u (refused n) = unfold tell in refl
+step-nothing w h u (gives (Step.program p pg s f)) = page-nothing h u
+step-nothing w h u (gives (Step.erase b s f)) = unfold tell in refl
 
-cut-nothing : (w : World) (h : History) → h .underWay ≡ collecting → (left : List ℕ) (st : Step) → tell h (cutShort w left st .told) ≡ h
+cut-nothing : (w : World) (h : History) → h .underWay ≡ collecting → (left : List ℕ) (st : Answer Step) → tell h (cutShort w left st .told) ≡ h
 unfolding cutShort
-cut-nothing w h u left (Step.refused n) = unfold tell in refl
-cut-nothing w h u left (Step.program p pg s f) = go (sameBytes left (programmed (w .medium) p pg))
+cut-nothing w h u left (refused n) = unfold tell in refl
+cut-nothing w h u left (gives (Step.program p pg s f)) = go (sameBytes left (programmed (w .medium) p pg))
   where
     go : (b : Bool) → tell h (cond b steppedPage unchanged) ≡ h
     go true = page-nothing h u
     go false = unfold tell in refl
-cut-nothing w h u left (Step.erase b s f) = unfold tell in refl
+cut-nothing w h u left (gives (Step.erase b s f)) = unfold tell in refl
 
-left-medium : (w : World) (left : List ℕ) (st : Step) → CutOf (w .medium) st left → cutShort w left st .after .medium ≡ left
+left-medium : (w : World) (left : List ℕ) (st : Answer Step) → CutOf (w .medium) st left → cutShort w left st .after .medium ≡ left
 unfolding cutShort CutOf
-left-medium w left (Step.refused n) c = absurd c
-left-medium w left (Step.program p pg s f) c = refl
-left-medium w left (Step.erase b s f) c = refl
+left-medium w left (refused n) c = absurd c
+left-medium w left (gives (Step.program p pg s f)) c = refl
+left-medium w left (gives (Step.erase b s f)) c = refl
 
 pub collection-keeps : CollectionKeeps
 unfolding CollectionKeeps
@@ -99,6 +100,6 @@ pub recovers-again : RecoversAgain
 unfolding RecoversAgain happen
 recovers-again w = again (recover (length (w .medium)) (views (w .medium))) refl
   where
-    again : (r : Recovery) → recover (length (w .medium)) (views (w .medium)) ≡ r → recovered (recovered w r .after) (recover (length (recovered w r .after .medium)) (views (recovered w r .after .medium))) .after ≡ recovered w r .after
-    again (Recovery.refused n) e = unfold recovered in rw e
-    again (Recovery.recovered log s) e = unfold recovered in rw e
+    again : (r : Answer Recovery) → recover (length (w .medium)) (views (w .medium)) ≡ r → recovered (recovered w r .after) (recover (length (recovered w r .after .medium)) (views (recovered w r .after .medium))) .after ≡ recovered w r .after
+    again (refused n) e = unfold recovered in rw e
+    again (gives x) e = unfold recovered in rw e

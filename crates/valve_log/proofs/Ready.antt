@@ -12,7 +12,7 @@ use lib.ListN.{length, set, take, length-set, length-take, length-append}
 use borrow.Author.Tests.{ltb-true, leb-false, lt-ltb, le-leb, eq-eqb, ne-eqb, not-true}
 use Rattle.lists.specs.declared.Cell.{Cell}
 use Rattle.lists.specs.Lists.{all, every, isSome}
-use Rattle.lists.specs.Needs.{checked}
+use Rattle.lists.specs.Needs.{Answer, refused, gives, under}
 use Rattle.lists.specs.Cells.{Entry, Place}
 use Rattle.lists.proofs.Laws.{by-cases, and-both, true-false, every-at, all-head, all-tail, all-take}
 use Rattle.page.specs.Pages.{Page, View, spoilt, whole, page, isClean, pagesFor}
@@ -27,7 +27,7 @@ use Rattle.blocks.specs.Blocks.{sizeOk, available, reachesBase, oldBlock, headW
 use Rattle.nodes.specs.Nodes.{nodeIn, wordFor, wordAt, inBlock, sound, words, live}
 use Rattle.state.specs.State.{Pending, idle, append, commit, collect, format, unnamed, Held, held, headFit, placeFit, indexFit, groupOk, basePages, doneFit, pendingFit, fit, isIdle, flush, bufferedIn}
 use Rattle.calls.specs.Calls.{serialsFor}
-use Rattle.step.specs.Step.{Step, isLast, groupPage, moved, addressed, appended, committed, collected, erasing, erasedFirst, programming, appendStep, commitStep, moveStep, collectStep, due, stepOf, flushed, flushStep}
+use Rattle.step.specs.Step.{Step, isLast, groupPage, headAfter, addressed, appended, committed, collected, erasing, erasedFirst, programming, appendStep, commitStep, moveStep, collectStep, due, stepOf, flushed, flushStep}
 use Rattle.step.proofs.Laws.{first-cases}
 use Rattle.valve_log.specs.History.{History}
 use Rattle.valve_log.specs.Steady.{expected}
@@ -138,14 +138,15 @@ old-elsewhere v p b base x n =
     below-same 16 (λ i. not (reachesBase base (seen (set v p x) (16 * b + i)))) (λ i. not (reachesBase base (seen v (16 * b + i))))
     (λ i l. ap (λ (y : View). not (reachesBase base y)) (seen-set-other v p (16 * b + i) x (λ e. n (omega arith))))
 
-stays-collectible : (v : List View) (h : Head) (b p : ℕ) (x : View) → (p / 16 ≡ b → ⊥) → collectible v h b ≡ true → collectible (set v p x) (moved h p (h .base)) b ≡ true
-unfolding collectible moved every
+stays-collectible : (v : List View) (h : Head) (b p : ℕ) (x : View) → (p / 16 ≡ b → ⊥) → collectible v h b ≡ true → collectible (set v p x) (headAfter h p (h .base)) b ≡ true
+unfolding collectible headAfter every
 stays-collectible v h b p x n c =
     let f = collects v h b c in
-    rw (lt-ltb b (h .blocks) (f .inside), clean-elsewhere v p b x n, f .used, no-room (moved h p (h .base)) b (λ e. n (sym e)), old-elsewhere v p b (h .base) x n, f .old)
+    rw (lt-ltb b (h .blocks) (f .inside), clean-elsewhere v p b x n, f .used, no-room (headAfter h p (h .base)) b (λ e. n (sym e)), old-elsewhere v p b (h .base) x n, f .old)
 
 -- an append and a commit with some pages done are fit
-pub fit-append : (v : List View) (h : Head) (index : List Place) (es : List Entry) (ps : List ℕ) → groupOk index es ≡ true → length ps < h .serial → length ps < pagesFor (length es) → pendingFit v h index (append es ps) ≡ true
+pub fit-append : (v : List View) (h : Head) (index : List Place) (es : List Entry) (ps : List ℕ) → groupOk index es ≡ true
+    → length ps < h .serial → length ps < pagesFor (length es) → pendingFit v h index (append es ps) ≡ true
 unfolding pendingFit doneFit every
 fit-append v h index es ps g a b = rw (g, lt-ltb (length ps) (h .serial) a, lt-ltb (length ps) (pagesFor (length es)) b)
 
@@ -171,10 +172,10 @@ left-collect v h index b k = k
 
 -- ---- the step keeps it all
 
-unfoldable pub StepReady : List View → Step → Type 0
-StepReady v (Step.refused n) = expected n ≡ true
-StepReady v (Step.program p pg s′ finished) = Ready (set v p (whole pg)) s′
-StepReady v (Step.erase b s′ finished) = (w : List View) → CutViews v (16 * b) 16 v w → Ready w s′
+unfoldable pub StepReady : List View → Answer Step → Type 0
+StepReady v (refused n) = expected n ≡ true
+StepReady v (gives (Step.program p pg s′ finished)) = Ready (set v p (whole pg)) s′
+StepReady v (gives (Step.erase b s′ finished)) = (w : List View) → CutViews v (16 * b) 16 v w → Ready w s′
 
 expected-9 : expected 9 ≡ true
 unfolding expected every
@@ -187,7 +188,7 @@ expected-14 = refl
 -- only 14 may refuse a page where one is available
 programming-ready : (v : List View) (h : Head) (pg : Page) (s′ : Held) (finished : Bool) → HeadReady v h → 1 ≤ available v h → (Which v h (pageDue v h) → Ready (set v (pageDue v h) (whole pg)) s′)
     → StepReady v (programming v h (pageDue v h) pg s′ finished)
-unfolding programming checked StepReady
+unfolding programming under StepReady
 programming-ready v h pg s′ finished r one f =
     let d = due-page v h r one in
     by-cases (serialsFor h 1) (λ e. rw (e, d .free) (f (d .which))) (λ e. rw e expected-14)
@@ -200,15 +201,15 @@ more-base : (n k : ℕ) → isLast k n ≡ false → suc k < basePages n
 unfolding basePages
 more-base n k e = let m = more-pages n k e in omega arith
 
-moved-serial : (h : Head) (p base : ℕ) → moved h p base .serial ≡ suc (h .serial)
-unfolding moved
-moved-serial h p base = refl
+head-after-serial : (h : Head) (p base : ℕ) → headAfter h p base .serial ≡ suc (h .serial)
+unfolding headAfter
+head-after-serial h p base = refl
 
-collected-is : (s : Held) (b : ℕ) (moves : List Place) (p : ℕ) → collected s b moves p ≡ held (moved (s .head) p (s .head .base)) (assignAll (s .index) (addressed moves (p ∷ []))) (collect b) (s .erased)
+collected-is : (s : Held) (b : ℕ) (moves : List Place) (p : ℕ) → collected s b moves p ≡ held (headAfter (s .head) p (s .head .base)) (assignAll (s .index) (addressed moves (p ∷ []))) (collect b) (s .erased)
 unfolding collected
 collected-is s b moves p = refl
 
-appended-more : (s : Held) (es : List Entry) (ps : List ℕ) (p : ℕ) → isLast (length ps) (length es) ≡ false → appended s es ps p ≡ held (moved (s .head) p (s .head .base)) (s .index) (append es (ps ++ (p ∷ []))) (s .erased)
+appended-more : (s : Held) (es : List Entry) (ps : List ℕ) (p : ℕ) → isLast (length ps) (length es) ≡ false → appended s es ps p ≡ held (headAfter (s .head) p (s .head .base)) (s .index) (append es (ps ++ (p ∷ []))) (s .erased)
 unfolding appended
 appended-more s es ps p e = rw e
 
@@ -221,7 +222,9 @@ module _ (v : List View) (s : Held) (h : History) (c : Coupled v (some s) h) (r 
 
   append-ready : (es : List Entry) (ps : List ℕ) → s .pending ≡ append es ps → StepReady v (appendStep v s es ps)
   unfolding appendStep
-  append-ready es ps e = programming-ready v (s .head) (groupPage 1 es (length ps) (s .head .serial)) (appended s es ps p) (isLast (length ps) (length es)) (r .heads) (omega (arith, lefts, fewer)) (λ w. by-cases (isLast (length ps) (length es)) (λ l. last w l) (λ l. more w l))
+  append-ready es ps e =
+      programming-ready v (s .head) (groupPage 1 es (length ps) (s .head .serial)) (appended s es ps p) (isLast (length ps) (length es)) (r .heads)
+      (omega (arith, lefts, fewer)) (λ w. by-cases (isLast (length ps) (length es)) (λ l. last w l) (λ l. more w l))
     where
       pends : pendingFit v (s .head) (s .index) (append es ps) ≡ true
       pends = rw e at (r .pend)
@@ -235,7 +238,7 @@ module _ (v : List View) (s : Held) (h : History) (c : Coupled v (some s) h) (r 
       last : Which v (s .head) p → isLast (length ps) (length es) ≡ true → Ready (set v p (whole (groupPage 1 es (length ps) (s .head .serial)))) (appended s es ps p)
       last w l = unfold appended in rw l
           (record {
-            size = unfold moved in grown-size (whole (groupPage 1 es (length ps) (s .head .serial)));
+            size = unfold headAfter in grown-size (whole (groupPage 1 es (length ps) (s .head .serial)));
             heads = ready-after v (s .head) p (s .head .base) (whole (groupPage 1 es (length ps) (s .head .serial))) (r .heads) w;
             pend = unfold pendingFit in refl;
             left = unfold Left in tt;
@@ -247,23 +250,25 @@ module _ (v : List View) (s : Held) (h : History) (c : Coupled v (some s) h) (r 
           let n : length (ps ++ (p ∷ [])) ≡ suc (length ps) = omega (arith, length-append ps (p ∷ [])) in
           rw (appended-more s es ps p l)
           (record {
-            size = unfold moved in grown-size (whole (groupPage 1 es (length ps) (s .head .serial)));
+            size = unfold headAfter in grown-size (whole (groupPage 1 es (length ps) (s .head .serial)));
             heads = ready-after v (s .head) p (s .head .base) (whole (groupPage 1 es (length ps) (s .head .serial))) (r .heads) w;
             pend = pend-more l;
-            left = left-append (set v p (whole (groupPage 1 es (length ps) (s .head .serial)))) (moved (s .head) p (s .head .base)) (s .index) es (ps ++ (p ∷ [])) (omega (arith, lefts));
+            left = left-append (set v p (whole (groupPage 1 es (length ps) (s .head .serial)))) (headAfter (s .head) p (s .head .base)) (s .index) es (ps ++ (p ∷ [])) (omega (arith, lefts));
           })
         where
-          pend-more : isLast (length ps) (length es) ≡ false → pendingFit (set v p (whole (groupPage 1 es (length ps) (s .head .serial)))) (moved (s .head) p (s .head .base)) (s .index) (append es (ps ++ (p ∷ []))) ≡ true
+          pend-more : isLast (length ps) (length es) ≡ false → pendingFit (set v p (whole (groupPage 1 es (length ps) (s .head .serial)))) (headAfter (s .head) p (s .head .base)) (s .index) (append es (ps ++ (p ∷ []))) ≡ true
           pend-more l =
               let n : length (ps ++ (p ∷ [])) ≡ suc (length ps) = omega (arith, length-append ps (p ∷ [])) in
               let k : length ps < s .head .serial = unfold pendingFit doneFit in ltb-true (length ps) (s .head .serial) (every-at 0 _ (every-at 1 _ pends)) in
               let g : groupOk (s .index) es ≡ true = unfold pendingFit in every-at 0 _ pends in
               let m = more-pages (length es) (length ps) l in
-              fit-append (set v p (whole (groupPage 1 es (length ps) (s .head .serial)))) (moved (s .head) p (s .head .base)) (s .index) es (ps ++ (p ∷ [])) g (omega (arith, moved-serial (s .head) p (s .head .base))) (omega arith)
+              fit-append (set v p (whole (groupPage 1 es (length ps) (s .head .serial)))) (headAfter (s .head) p (s .head .base)) (s .index) es (ps ++ (p ∷ [])) g (omega (arith, head-after-serial (s .head) p (s .head .base))) (omega arith)
 
   commit-ready : (k : ℕ) → s .pending ≡ commit k → StepReady v (commitStep v s k)
   unfolding commitStep
-  commit-ready k e = programming-ready v (s .head) (groupPage 2 (s .index) k (s .head .serial)) (committed s k p) (isLast k (length (s .index))) (r .heads) (omega (arith, lefts, fewer)) (λ w. by-cases (isLast k (length (s .index))) (λ l. last w l) (λ l. more w l))
+  commit-ready k e =
+      programming-ready v (s .head) (groupPage 2 (s .index) k (s .head .serial)) (committed s k p) (isLast k (length (s .index))) (r .heads)
+      (omega (arith, lefts, fewer)) (λ w. by-cases (isLast k (length (s .index))) (λ l. last w l) (λ l. more w l))
     where
       pends : pendingFit v (s .head) (s .index) (commit k) ≡ true
       pends = rw e at (r .pend)
@@ -277,7 +282,7 @@ module _ (v : List View) (s : Held) (h : History) (c : Coupled v (some s) h) (r 
       last : Which v (s .head) p → isLast k (length (s .index)) ≡ true → Ready (set v p (whole (groupPage 2 (s .index) k (s .head .serial)))) (committed s k p)
       last w l = unfold committed in rw l
           (record {
-            size = unfold moved in grown-size (whole (groupPage 2 (s .index) k (s .head .serial)));
+            size = unfold headAfter in grown-size (whole (groupPage 2 (s .index) k (s .head .serial)));
             heads = ready-after v (s .head) p (s .head .serial - k) (whole (groupPage 2 (s .index) k (s .head .serial))) (r .heads) w;
             pend = unfold pendingFit in refl;
             left = unfold Left in tt;
@@ -288,20 +293,20 @@ module _ (v : List View) (s : Held) (h : History) (c : Coupled v (some s) h) (r 
           let a = available-after v (s .head) p (s .head .base) (whole (groupPage 2 (s .index) k (s .head .serial))) (r .heads) w in
           unfold committed in rw l
           (record {
-            size = unfold moved in grown-size (whole (groupPage 2 (s .index) k (s .head .serial)));
+            size = unfold headAfter in grown-size (whole (groupPage 2 (s .index) k (s .head .serial)));
             heads = ready-after v (s .head) p (s .head .base) (whole (groupPage 2 (s .index) k (s .head .serial))) (r .heads) w;
             pend = pend-more l;
             left = unfold Left in omega (arith, lefts);
           })
         where
-          pend-more : isLast k (length (s .index)) ≡ false → pendingFit (set v p (whole (groupPage 2 (s .index) k (s .head .serial)))) (moved (s .head) p (s .head .base)) (s .index) (commit (suc k)) ≡ true
+          pend-more : isLast k (length (s .index)) ≡ false → pendingFit (set v p (whole (groupPage 2 (s .index) k (s .head .serial)))) (headAfter (s .head) p (s .head .base)) (s .index) (commit (suc k)) ≡ true
           pend-more l =
               let q : k < s .head .serial = unfold pendingFit doneFit in ltb-true k (s .head .serial) (every-at 0 _ pends) in
-              fit-commit (set v p (whole (groupPage 2 (s .index) k (s .head .serial)))) (moved (s .head) p (s .head .base)) (s .index) (suc k) (omega (arith, moved-serial (s .head) p (s .head .base))) (more-base (length (s .index)) k l)
+              fit-commit (set v p (whole (groupPage 2 (s .index) k (s .head .serial)))) (headAfter (s .head) p (s .head .base)) (s .index) (suc k) (omega (arith, head-after-serial (s .head) p (s .head .base))) (more-base (length (s .index)) k l)
 
   -- the nodes moved leave the block, and a page fewer is wanted
   move-ready : (b : ℕ) (l : List Place) → s .pending ≡ collect b → live (s .index) b ≡ l → 1 ≤ length l → StepReady v (moveStep v s b (take 24 l))
-  unfolding moveStep checked
+  unfolding moveStep under
   move-ready b l e q many =
       rw sounds (programming-ready v (s .head) (page 3 3 (s .head .serial) (words v (take 24 l))) (collected s b (take 24 l) p) false (r .heads) (omega (arith, lefts, pages)) (λ w. after w))
     where
@@ -336,7 +341,8 @@ module _ (v : List View) (s : Held) (h : History) (c : Coupled v (some s) h) (r 
       moved-out n =
           ap (λ (t : List Place). length (live (assignAll (s .index) t) b) + length (take 24 l)) (addressed-one (take 24 l) p taken)
           ∙ moves-out b p (s .index) (take 24 l) rises members (rw q at (all-take (inBlock b) 24 (live (s .index) b) (live-in-block (s .index) b)))
-          (unfold valves in in-all (λ (x : Cell). ltb (x .key) 32768) (take 24 l) (λ x i. all-in (λ (x : Cell). ltb (x .key) 32768) (index-valved) (members x i))) (rw q at (unique-live (s .index) b 24 rises)) taken n
+          (unfold valves in in-all (λ (x : Cell). ltb (x .key) 32768) (take 24 l) (λ x i. all-in (λ (x : Cell). ltb (x .key) 32768) (index-valved) (members x i)))
+          (rw q at (unique-live (s .index) b 24 rises)) taken n
           ∙ ap length q
         where
           index-valved : all (λ x. ltb (x .key) 32768) (s .index) ≡ true
@@ -352,10 +358,10 @@ module _ (v : List View) (s : Held) (h : History) (c : Coupled v (some s) h) (r 
           let f = fewer (length (live (assignAll (s .index) (addressed (take 24 l) (p ∷ []))) b)) (moved-out n) in
           rw (collected-is s b (take 24 l) p)
           (record {
-            size = unfold moved in grown-size (whole (page 3 3 (s .head .serial) (words v (take 24 l))));
+            size = unfold headAfter in grown-size (whole (page 3 3 (s .head .serial) (words v (take 24 l))));
             heads = ready-after v (s .head) p (s .head .base) (whole (page 3 3 (s .head .serial) (words v (take 24 l)))) (r .heads) w;
             pend = unfold pendingFit in stays-collectible v (s .head) b p (whole (page 3 3 (s .head .serial) (words v (take 24 l)))) n fits;
-            left = left-collect (set v p (whole (page 3 3 (s .head .serial) (words v (take 24 l))))) (moved (s .head) p (s .head .base)) (assignAll (s .index) (addressed (take 24 l) (p ∷ []))) b (omega (arith, lefts));
+            left = left-collect (set v p (whole (page 3 3 (s .head .serial) (words v (take 24 l))))) (headAfter (s .head) p (s .head .base)) (assignAll (s .index) (addressed (take 24 l) (p ∷ []))) b (omega (arith, lefts));
           })
 
   -- an erase leaves the head's clean pages clean
@@ -383,7 +389,7 @@ module _ (v : List View) (s : Held) (h : History) (c : Coupled v (some s) h) (r 
           go (no x) (yes y) = turned-clean (seen v q) (seen w q) e (cut .inside q (omega arith) y)
 
   -- one of a new head, before its first page, leaves all as it was
-  first-ready : (own : Step) → StepReady v own → StepReady v (erasedFirst v s own)
+  first-ready : (own : Answer Step) → StepReady v own → StepReady v (erasedFirst v s own)
   first-ready own R =
       first-cases (StepReady v) v s own
       (λ f. unfold StepReady in (λ w cut. rw (clean-same v w (newHead v (s .head)) (f .cleans) cut) (unfold erasing in record { size = r .size; heads = r .heads; pend = r .pend; left = r .left })))
@@ -400,7 +406,7 @@ module _ (v : List View) (s : Held) (h : History) (c : Coupled v (some s) h) (r 
       programming-ready v (s .head) (groupsPage (s .head .serial) gs) (flushed s gs p) true (r .heads) one (λ w.
       unfold flushed in
       record {
-        size = unfold moved in grown-size (whole (groupsPage (s .head .serial) gs));
+        size = unfold headAfter in grown-size (whole (groupsPage (s .head .serial) gs));
         heads = ready-after v (s .head) p (s .head .base) (whole (groupsPage (s .head .serial) gs)) (r .heads) w;
         pend = unfold pendingFit in refl;
         left = unfold Left in tt;
@@ -420,7 +426,8 @@ module _ (v : List View) (s : Held) (h : History) (c : Coupled v (some s) h) (r 
   due-ready gs unnamed e = absurd (unfold Left in (rw e at (r .left)))
 
   pub step-ready : (b : List ℕ) → Lent s b h → (n : ℕ) → sizeOk n ≡ true → StepReady v (stepOf n v s b)
-  unfolding stepOf checked
+  unfolding stepOf under
   step-ready b L n size =
       let f = with-fit v L (fit-ready v s h c r) in
-      by-cases (isIdle (s .pending)) (λ i. rw (size, f, i) (unfold StepReady in expected-9)) (λ i. rw (size, f, i) (first-ready (due v s (bufferedIn b) (s .pending)) (due-ready (bufferedIn b) (s .pending) refl)))
+      by-cases (isIdle (s .pending)) (λ i. rw (size, f, i) (unfold StepReady in expected-9))
+      (λ i. rw (size, f, i) (first-ready (due v s (bufferedIn b) (s .pending)) (due-ready (bufferedIn b) (s .pending) refl)))

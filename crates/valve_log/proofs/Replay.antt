@@ -58,7 +58,8 @@ enter-nodes k a l (e ∷ es) q h =
     rw (q, p) (enter-nodes k (suc a) (assign l c) es q r)
 
 -- a group of kind 1 or 3 enters the index whole
-pub enter-group : (k : ℕ) (l : List Cell) (g : List Placed) → eqb k 2 ≡ false → all (λ x. eqb (kindOf x) k) g ≡ true → within l (nodesOf g) ≡ true → enterPages (some l) g ≡ some (assignAll l (nodesOf g))
+pub enter-group : (k : ℕ) (l : List Cell) (g : List Placed) → eqb k 2 ≡ false → all (λ x. eqb (kindOf x) k) g ≡ true
+    → within l (nodesOf g) ≡ true → enterPages (some l) g ≡ some (assignAll l (nodesOf g))
 unfolding enterPages enterPage nodesOf assignAll
 enter-group k l [] q u h = refl
 enter-group k l (x ∷ g) q u h =
@@ -95,7 +96,8 @@ rising-left m (e ∷ a) b h =
     (rising-left (suc (e .key)) a b (and-r (leb m (e .key)) (risingFrom (suc (e .key)) (a ++ b)) h))
 
 -- a base that rises becomes the index
-pub enter-base : (l : List Cell) (g : List Placed) → all (λ x. eqb (kindOf x) 2) g ≡ true → risingFrom (above l) (entriesOf g) ≡ true → length l + length (entriesOf g) ≤ mostValves → enterPages (some l) g ≡ some (l ++ entriesOf g)
+pub enter-base : (l : List Cell) (g : List Placed) → all (λ x. eqb (kindOf x) 2) g ≡ true → risingFrom (above l) (entriesOf g) ≡ true
+    → length l + length (entriesOf g) ≤ mostValves → enterPages (some l) g ≡ some (l ++ entriesOf g)
 unfolding enterPages enterPage entriesOf
 enter-base l [] u r h = ap some (sym (append-nil l))
 enter-base l (x ∷ g) u r h =
@@ -127,14 +129,16 @@ addressed-page k j i a (x ∷ es) q e f h =
     rw (u, w, ← f, addressed-page k (suc j) (suc i) (suc a) es q (omega arith) (omega arith) (omega arith))
 
 -- the pages from page k on; q lists all the pages, ps those from page k on
-addressed-from : (kind : ℕ) (es : List Entry) (k s : ℕ) (q ps : List ℕ) → ((j : ℕ) → getD q (k + j) 0 ≡ getD ps j 0) → length es ≤ 24 * (k + length ps) → addressedFrom (24 * k) (drop (24 * k) es) q ≡ nodesOf (lay kind es k s ps)
+addressed-from : (kind : ℕ) (es : List Entry) (k s : ℕ) (q ps : List ℕ) → ((j : ℕ) → getD q (k + j) 0 ≡ getD ps j 0)
+    → length es ≤ 24 * (k + length ps) → addressedFrom (24 * k) (drop (24 * k) es) q ≡ nodesOf (lay kind es k s ps)
 unfolding lay nodesOf groupPage
 addressed-from kind es k s q [] f h = rw (drop-of-length-le es {i = 24 * k} (omega arith)) (unfold addressedFrom in refl)
 addressed-from kind es k s q (p ∷ ps) f h =
     let m : 24 * k + 24 ≡ 24 * suc k = omega arith in
     let z : k + 0 ≡ k = omega arith in
     let g : getD q k 0 ≡ p = rw z at (f 0) in
-    let c : addressedFrom (24 * k) (take 24 (drop (24 * k) es)) q ≡ nodes (24 * p) (take 24 (drop (24 * k) es)) = addressed-page k 0 (24 * k) (24 * p) (take 24 (drop (24 * k) es)) q (omega arith) (omega (arith, g)) (omega (arith, length-take 24 (drop (24 * k) es))) in
+    let c : addressedFrom (24 * k) (take 24 (drop (24 * k) es)) q ≡ nodes (24 * p) (take 24 (drop (24 * k) es)) =
+    addressed-page k 0 (24 * k) (24 * p) (take 24 (drop (24 * k) es)) q (omega arith) (omega (arith, g)) (omega (arith, length-take 24 (drop (24 * k) es))) in
     let r : addressedFrom (24 * suc k) (drop (24 * suc k) es) q ≡ nodesOf (lay kind es (suc k) (suc s) ps) = addressed-from kind es (suc k) (suc s) q ps (λ j. next j) (omega arith) in
     addressed-split 24 (24 * k) (drop (24 * k) es) q ∙ rw (drop-drop 24 (24 * k) es, m, c, r)
   where

@@ -7,7 +7,7 @@ use native.Mathlib.Omega.{arith}
 use Rattle.flash.specs.Medium.{views}
 use Rattle.state.specs.State.{Held}
 use Rattle.readings.specs.Readings.{readSettings}
-use Rattle.lists.specs.Needs.{checked}
+use Rattle.lists.specs.Needs.{under}
 use Rattle.valve_log.specs.Reached.{world}
 use Rattle.valve_log.specs.Settings.{Stands, StandsReached, SettingsTold}
 use Rattle.valve_log.proofs.Events.{Upheld}
@@ -27,5 +27,5 @@ stands w h s R e = told (w .medium) (w .buffer) (w .state) (reached-upheld w h R
         rw (← q) (standing m t bs h U r′)
 
 pub settings-told : SettingsTold
-unfolding SettingsTold StandsReached readSettings checked
-settings-told w h s valves ws R e = let S = stands w h s R e in rw (S .size, S .fits, S .sounds, S .settings)
+unfolding SettingsTold StandsReached readSettings under
+settings-told w h s lists R e = let S = stands w h s R e in rw (S .size, S .fits, S .sounds, S .settings)

@@ -7,6 +7,7 @@ use Prim.Native.Nat.{ℕ, suc, _+_, _-_, _/_, _≤_, _<_}
 use native.Mathlib.Omega.{arith}
 use lib.ListN.{length, set, length-append}
 use borrow.Author.Tests.{ltb-true, lt-ltb}
+use Rattle.lists.specs.Needs.{gives, under}
 use Rattle.lists.specs.Lists.{all, every, isSome, valueOr}
 use Rattle.lists.specs.Cells.{Entry, Place, Setting}
 use Rattle.lists.proofs.Laws.{all-weaken, keep-all-of, tests, checked-pass}
@@ -16,9 +17,10 @@ use Rattle.flash.specs.Medium.{seen}
 use Rattle.nodes.specs.Nodes.{sound, words}
 use Rattle.state.specs.State.{Held, held, noneErased, idle}
 use Rattle.blocks.specs.Blocks.{sizeOk}
-use Rattle.recovery.specs.Recovery.{Placed, placed, serialOf, wholes, allLawful, distinct, sort, lastOf, noPage, baseOf, reaches, from, consecutive, Group, between, walk, groupsOf, logOf, pagesOf, enterPages, refused, recovered, base, chain, groups, replayed, recoveredState, recoverNeeds, recover}
+use Rattle.recovery.specs.Recovery.{Placed, placed, serialOf, wholes, allLawful, distinct, sort, lastOf, noPage, baseOf, reaches, from, consecutive, Group, between, walk, groupsOf, logOf, pagesOf, enterPages, recoveryWith, base, chain, groups, replayed, recoveredState, recoverNeeds, recover}
 use Rattle.recovery.proofs.Pages.{base-append}
-use Rattle.valve_log.proofs.Order.{below, Grow, grow-all, grow-from, grow-sort, grow-distinct, Thin, thin-all, thin-distinct, thin-from, upto, sort-split, from-sort, last-append, consecutive-append, consecutive-one, consecutive-last}
+use Rattle.valve_log.proofs.Order.{below, Grow, grow-all, grow-from, grow-sort, grow-distinct, Thin, thin-all, thin-distinct, thin-from}
+use Rattle.valve_log.proofs.Order.{upto, sort-split, from-sort, last-append, consecutive-append, consecutive-one, consecutive-last}
 use Rattle.valve_log.proofs.Index.{TidyIndex, words-keep, sound-keep}
 use Rattle.valve_log.proofs.Views.{wholes-grow, set-keeps, Lost, thin-of}
 
@@ -77,11 +79,11 @@ module _ {v : List View} {log : List (List Entry)} {settings : List Setting} {b 
   unfolding recoveredState outcome valueOr
   outcome-is = rw (base-is, replayed-is, greatest)
 
-  pub accepts : (n : ℕ) → sizeOk n ≡ true → recover n v ≡ recovered log outcome
+  pub accepts : (n : ℕ) → sizeOk n ≡ true → recover n v ≡ gives (recoveryWith log outcome)
   unfolding recover
   accepts n size =
-      checked-pass refused (recoverNeeds n v) (recovered (logOf (valueOr [] (groups v))) (recoveredState v)) met
-      ∙ rw (groups-are, outcome-is) (unfold valueOr in ap (λ (l : List (List Entry)). recovered l outcome) (S .logs))
+      checked-pass (recoverNeeds n v) (gives (recoveryWith (logOf (valueOr [] (groups v))) (recoveredState v))) met
+      ∙ rw (groups-are, outcome-is) (unfold valueOr in ap (λ (l : List (List Entry)). gives (recoveryWith l outcome)) (S .logs))
     where
       met : every (tests (recoverNeeds n v)) ≡ true
       met = unfold every tests isSome valueOr in rw (size, S .lawfuls, S .distincts, found-base, base-is, chain-is, S .rises, groups-are, replayed-is, S .sounds)
@@ -125,11 +127,13 @@ grown {v} {log} {settings} {b} {ch} {gs} {idx} S p pg c l s =
     under = rw s (S .bound)
 
     wider : (y : Placed) → below (b + length ch) y ≡ true → below (b + length (ch ++ (x ∷ []))) y ≡ true
-    wider y e = unfold below in (let h : serialOf y < b + length ch = ltb-true (serialOf y) (b + length ch) e in lt-ltb (serialOf y) (b + length (ch ++ (x ∷ []))) (omega (arith, length-append ch (x ∷ []))))
+    wider y e =
+        unfold below in (let h : serialOf y < b + length ch = ltb-true (serialOf y) (b + length ch) e in lt-ltb (serialOf y) (b + length (ch ++ (x ∷ []))) (omega (arith, length-append ch (x ∷ []))))
 
 -- ---- changes that keep the base, its chain and the index: pages with lower serials are lost, and what the index points at stays
 
-pub lost-sound : {v : List View} {log : List (List Entry)} {settings : List Setting} {b : ℕ} {ch : List Placed} {gs : List Group} {idx : List Place} → Sound v log settings b ch gs idx → (w : List View)
+pub lost-sound : {v : List View} {log : List (List Entry)} {settings : List Setting} {b : ℕ} {ch : List Placed} {gs : List Group} {idx : List Place}
+    → Sound v log settings b ch gs idx → (w : List View)
     → length w ≡ length v → ((q : ℕ) → Lost b (seen v q) (seen w q)) → sound w idx ≡ true → words w idx ≡ words v idx → Sound w log settings b ch gs idx
 lost-sound {v} {b = b} {ch = ch} S w l f s k =
     let t : Thin b (wholes 0 v) (wholes 0 w) = thin-of b 0 v w l f in

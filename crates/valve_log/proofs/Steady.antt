@@ -10,9 +10,9 @@ use lib.ListN.{length, replicate, length-append, length-replicate, getD-replicat
 use borrow.Author.Tests.{leb-true, le-leb, ltb-true, lt-ltb, eqb-true}
 use Rattle.lists.specs.declared.Cell.{Cell}
 use Rattle.lists.specs.Lists.{all, every, isSome, valueOr}
-use Rattle.lists.specs.Needs.{Need, need, refusalOf, checked}
+use Rattle.lists.specs.Needs.{Answer, refused, gives, Need, need, under, checked, answerOr, refusalOf}
 use Rattle.lists.specs.Cells.{cell, Place}
-use Rattle.lists.proofs.Laws.{by-cases, true-false, every-at, all-head, all-tail, tests, checked-cases}
+use Rattle.lists.proofs.Laws.{by-cases, true-false, every-at, all-head, all-tail, tests, checked-cases, same-refusal, given-refused}
 use Rattle.page.specs.Pages.{View, clean, spoilt, whole, isClean, pagesFor, changesOf}
 use Rattle.flash.specs.Medium.{views, seen, erased}
 use Rattle.flash.proofs.Laws.{length-views}
@@ -23,9 +23,8 @@ use Rattle.nodes.specs.Nodes.{wordAt, sound, words, live, pickBelow}
 use Rattle.state.specs.State.{Pending, append, commit, collect, flush, Held, groupOk, basePages, pendingFit, fit, fitWith, bufferedIn, stateNeeds}
 use Rattle.recovery.specs.Recovery.{Placed, wholes, sort, lastOf, noPage, Recovery}
 use Rattle.recovery.specs.Recovery
-use Rattle.readings.specs.Readings.{Opening, placeOf, openingNeeds, openingOf, lastNaming, setsAt, soughtIn, sought, wordRefusal, Pick, pickedBlock, pickOf, Survey, surveyOf, Supply, availableOf}
-use Rattle.readings.specs.Readings.{Answer, SettingsRead, longEnough, filedSettings, readSettings}
-use Rattle.calls.specs.Calls.{Call, starting, zip, listsOk, roomFor, appendNeeds, appendOf, commitNeeds, commitOf, collectNeeds, collectOf, Buffering, flushNeeds, flushOf, bufferNeeds, bufferOf}
+use Rattle.readings.specs.Readings.{placeOf, openingNeeds, openingOf, lastNaming, setsAt, soughtIn, sought, wordRefusal, pickOf, surveyOf, availableOf, longEnough, putInto, filedInto, filedSettings, readSettings}
+use Rattle.calls.specs.Calls.{starting, zip, listsOk, roomFor, appendNeeds, appendOf, commitNeeds, commitOf, collectNeeds, collectOf, flushNeeds, flushOf, bufferNeeds, bufferOf}
 use Rattle.step.specs.Step.{Step, stepOf, mediumAfter}
 use Rattle.valve_log.specs.Settings.{Stands}
 use Rattle.valve_log.specs.History.{History, Told, beganAppend, beganCommit, beganCollect, putIn, beganFlush}
@@ -166,22 +165,22 @@ starts-ready w B = rw (B .holds) (unfold StateReady in ready)
 
 module _ (m : List ℕ) (s : Held) (bs : List ℕ) (h : History) (U : Upheld (world m (some s) bs) h) (r : Ready (views m) s) where
   call-ready : (t : Told) (cs : List Need) (s′ : Held) → (every (tests cs) ≡ true → Ready (views m) s′)
-      → StateReady (views (called (world m (some s) bs) t (checked Call.refused cs (Call.begun s′)) .after .medium)) (called (world m (some s) bs) t (checked Call.refused cs (Call.begun s′)) .after .state)
+      → StateReady (views (called (world m (some s) bs) t (checked cs s′) .after .medium)) (called (world m (some s) bs) t (checked cs s′) .after .state)
   call-ready t cs s′ f =
-      checked-cases (λ (c : Call). StateReady (views (called (world m (some s) bs) t c .after .medium)) (called (world m (some s) bs) t c .after .state)) Call.refused cs (Call.begun s′)
+      checked-cases (λ (c : Answer Held). StateReady (views (called (world m (some s) bs) t c .after .medium)) (called (world m (some s) bs) t c .after .state)) cs (gives s′)
       (λ n. unfold called StateReady in r) (λ e. unfold called StateReady in f e)
 
   buffer-ready : (t : Told) (cs : List Need) (b : List ℕ)
-      → StateReady (views (filled (world m (some s) bs) t (checked Buffering.refused cs (Buffering.buffered b)) .after .medium)) (filled (world m (some s) bs) t (checked Buffering.refused cs (Buffering.buffered b)) .after .state)
+      → StateReady (views (filled (world m (some s) bs) t (checked cs b) .after .medium)) (filled (world m (some s) bs) t (checked cs b) .after .state)
   buffer-ready t cs b =
-      checked-cases (λ (c : Buffering). StateReady (views (filled (world m (some s) bs) t c .after .medium)) (filled (world m (some s) bs) t c .after .state)) Buffering.refused cs (Buffering.buffered b)
+      checked-cases (λ (c : Answer (List ℕ)). StateReady (views (filled (world m (some s) bs) t c .after .medium)) (filled (world m (some s) bs) t c .after .state)) cs (gives b)
       (λ n. unfold filled StateReady in r) (λ e. unfold filled StateReady in r)
 
-  stepped-ready : (st : Step) → Good (views m) s bs h st → StepReady (views m) st → StateReady (views (stepped (world m (some s) bs) st .after .medium)) (stepped (world m (some s) bs) st .after .state)
+  stepped-ready : (st : Answer Step) → Good (views m) s bs h st → StepReady (views m) st → StateReady (views (stepped (world m (some s) bs) st .after .medium)) (stepped (world m (some s) bs) st .after .state)
   unfolding stepped mediumAfter Good StepReady StateReady
-  stepped-ready (Step.refused n) G R = r
-  stepped-ready (Step.program p pg s′ finished) G R = rw (program-views m p pg (there m s bs h U p pg s′ G) (G .fits-in)) R
-  stepped-ready (Step.erase b s′ finished) G R = R (views (erased m b)) (erase-cut m s bs h U b s′ G)
+  stepped-ready (refused n) G R = r
+  stepped-ready (gives (Step.program p pg s′ finished)) G R = rw (program-views m p pg (there m s bs h U p pg s′ G) (G .fits-in)) R
+  stepped-ready (gives (Step.erase b s′ finished)) G R = R (views (erased m b)) (erase-cut m s bs h U b s′ G)
 
 recover-ready : (m : List ℕ) (s : Option Held) (b : List ℕ) (h : History) → Upheld (world m s b) h
     → StateReady (views (recovered (world m s b) (Recovery.recover (length m) (views m)) .after .medium)) (recovered (world m s b) (Recovery.recover (length m) (views m)) .after .state)
@@ -197,29 +196,34 @@ recover-ready m s b h U = rw (accepts (U .coupled .medium) (length m) (U .size))
     low : 64 ≤ length (views m)
     low = omega (arith, length-views m, S .low)
 
-cut-ready : (w : World) (left : List ℕ) (st : Step) → StateReady (views (cutShort w left st .after .medium)) (cutShort w left st .after .state)
+cut-ready : (w : World) (left : List ℕ) (st : Answer Step) → StateReady (views (cutShort w left st .after .medium)) (cutShort w left st .after .state)
 unfolding cutShort StateReady
-cut-ready w left (Step.refused n) = tt
-cut-ready w left (Step.program p pg s finished) = tt
-cut-ready w left (Step.erase b s finished) = tt
+cut-ready w left (refused n) = tt
+cut-ready w left (gives (Step.program p pg s finished)) = tt
+cut-ready w left (gives (Step.erase b s finished)) = tt
 
 event-ready : (m : List ℕ) (s : Option Held) (b : List ℕ) (h : History) (e : Event (world m s b)) → Upheld (world m s b) h → StateReady (views m) s
     → StateReady (views (happen (world m s b) e .after .medium)) (happen (world m s b) e .after .state)
 unfolding happen withState stepDue
 event-ready m none b h (Event.append ks ws x y) U r = r
 event-ready m (some s) b h (Event.append ks ws x y) U r =
-    unfold appendOf StateReady in call-ready m s b h U r (beganAppend (zip ks ws)) (appendNeeds (length m) (views m) s b ks ws) (starting s (append (zip ks ws) [])) (append-begun (length m) (views m) s b h (U .coupled) r ks ws)
+    unfold appendOf StateReady in call-ready m s b h U r (beganAppend (zip ks ws)) (appendNeeds (length m) (views m) s b ks ws)
+    (starting s (append (zip ks ws) [])) (append-begun (length m) (views m) s b h (U .coupled) r ks ws)
 event-ready m none b h Event.commit U r = r
-event-ready m (some s) b h Event.commit U r = unfold commitOf StateReady in call-ready m s b h U r beganCommit (commitNeeds (length m) (views m) s b) (starting s (commit 0)) (commit-begun (length m) (views m) s b h (U .coupled) r)
+event-ready m (some s) b h Event.commit U r =
+    unfold commitOf StateReady in call-ready m s b h U r beganCommit (commitNeeds (length m) (views m) s b) (starting s (commit 0)) (commit-begun (length m) (views m) s b h (U .coupled) r)
 event-ready m none b h (Event.collect k) U r = r
 event-ready m (some s) b h (Event.collect k) U r =
     unfold collectOf StateReady in call-ready m s b h U r beganCollect (collectNeeds (length m) (views m) s b k) (starting s (collect k)) (collect-begun (length m) (views m) s b h (U .coupled) r k)
 event-ready m none b h (Event.buffer ks ws x y) U r = r
-event-ready m (some s) b h (Event.buffer ks ws x y) U r = unfold bufferOf StateReady in buffer-ready m s b h U r (putIn (zip ks ws)) (bufferNeeds (length m) (views m) s b ks ws) (holding (bufferedIn b ++ (zip ks ws ∷ [])))
+event-ready m (some s) b h (Event.buffer ks ws x y) U r =
+    unfold bufferOf StateReady in buffer-ready m s b h U r (putIn (zip ks ws)) (bufferNeeds (length m) (views m) s b ks ws) (holding (bufferedIn b ++ (zip ks ws ∷ [])))
 event-ready m none b h Event.flush U r = r
-event-ready m (some s) b h Event.flush U r = unfold flushOf StateReady in call-ready m s b h U r beganFlush (flushNeeds (length m) (views m) s b) (starting s flush) (flush-begun (length m) (views m) s b h (U .coupled) r)
+event-ready m (some s) b h Event.flush U r =
+    unfold flushOf StateReady in call-ready m s b h U r beganFlush (flushNeeds (length m) (views m) s b) (starting s flush) (flush-begun (length m) (views m) s b h (U .coupled) r)
 event-ready m none b h Event.step U r = unfold stepped in r
-event-ready m (some s) b h Event.step U r = unfold StateReady in stepped-ready m s b h U r (stepOf (length m) (views m) s b) (due-good m s b h U) (step-ready (views m) s h (U .coupled) r b (lent-of (U .lending)) (length m) (U .size))
+event-ready m (some s) b h Event.step U r =
+    unfold StateReady in stepped-ready m s b h U r (stepOf (length m) (views m) s b) (due-good m s b h U) (step-ready (views m) s h (U .coupled) r b (lent-of (U .lending)) (length m) (U .size))
 event-ready m s b h Event.recover U r = recover-ready m s b h U
 event-ready m s b h Event.read U r = r
 event-ready m s b h Event.cut U r = unfold StateReady in tt
@@ -237,28 +241,21 @@ data Fair : List Need → Type 0 where
   met : {c : Need} {cs : List Need} → c .holds ≡ true → Fair cs → Fair (c ∷ cs)
   may : {c : Need} {cs : List Need} → expected (c .number) ≡ true → Fair cs → Fair (c ∷ cs)
 
-fair : {A : Type 0} (P : A → Type 0) (refused : ℕ → A) (a : A) (cs : List Need) → Fair cs → ((n : ℕ) → expected n ≡ true → P (refused n)) → P a → P (checked refused cs a)
-unfolding checked
-fair P refused a cs end f p = p
-fair P refused a cs (met {c = c} {cs = ds} e r) f p = rw e (fair P refused a ds r f p)
-fair P refused a cs (may {c = c} {cs = ds} e r) f p = by-cases (c .holds) (λ h. rw h (fair P refused a ds r f p)) (λ h. rw h (f (c .number) e))
+fair : {A : Type 0} (P : Answer A → Type 0) (a : Answer A) (cs : List Need) → Fair cs → ((n : ℕ) → expected n ≡ true → P (refused n)) → P a → P (under cs a)
+unfolding under
+fair P a cs end f p = p
+fair P a cs (met {c = c} {cs = ds} e r) f p = rw e (fair P a ds r f p)
+fair P a cs (may {c = c} {cs = ds} e r) f p = by-cases (c .holds) (λ h. rw h (fair P a ds r f p)) (λ h. rw h (f (c .number) e))
 
--- a refusal has its number alone
-call-number : (a b : ℕ) → Call.refused a ≡ Call.refused b → a ≡ b
-call-number a b e = cc
+call-fair : {A : Type 0} (cs : List Need) (x : A) → Fair cs → (n : ℕ) → checked cs x ≡ refused n → expected n ≡ true
+call-fair {A} cs x F =
+    fair (λ (c : Answer A). (n : ℕ) → c ≡ refused n → expected n ≡ true) (gives x) cs F (λ k e n q. rw (same-refusal k n q) at e) (λ n q. given-refused x n q)
 
-call-fair : (cs : List Need) (s′ : Held) → Fair cs → (n : ℕ) → checked Call.refused cs (Call.begun s′) ≡ Call.refused n → expected n ≡ true
-call-fair cs s′ F =
-    fair (λ (c : Call). (n : ℕ) → c ≡ Call.refused n → expected n ≡ true) Call.refused (Call.begun s′) cs F (λ k e n q. rw (call-number k n q) at e)
-    (λ n q. let z : _≡_ {A = ℕ} 0 1 = cc in absurd (omega arith))
-
--- settings filed are refused by 17 alone
-settings-fairly : (valves ws : List ℕ) (l : List Cell) (n : ℕ) → filedSettings valves ws l .answer ≡ Answer.turnedBack n → n ≡ 17
-unfolding filedSettings checked
-settings-fairly valves ws l n e =
-    by-cases (longEnough (valves ∷ ws ∷ []) (length l))
-    (λ q. let f = rw q at e in let z : _≡_ {A = ℕ} 0 1 = cc in absurd (omega arith))
-    (λ q. let f = rw q at e in cc)
+-- what is filed into lent lists is refused by 17 alone
+pub filed-fairly : (lists filled : List (List ℕ)) (k n : ℕ) → filedInto lists k filled ≡ refused n → n ≡ 17
+unfolding filedInto under
+filed-fairly lists filled k n e =
+    by-cases (longEnough lists k) (λ q. given-refused (record { count = k; lists = putInto lists filled }) n (rw q at e)) (λ q. sym (same-refusal 17 n (rw q at e)))
 
 -- a valve that is set has a place in the index
 pub in-lookup : (valve : ℕ) (l : List Place) → isSome (lookup valve l) ≡ true → In (cell valve (valueOr 0 (lookup valve l))) l
@@ -299,90 +296,65 @@ module _ (m : List ℕ) (s : Held) (bs : List ℕ) (h : History) (U : Upheld (wo
   pub standing : Stands m s h
   standing = record { size = U .size; fits = fits; sounds = index-sound; settings = words-shown }
 
-  pub settings-filed : (valves ws : List ℕ) → readSettings (length m) v s valves ws ≡ filedSettings valves ws (h .settings)
-  unfolding readSettings checked
-  settings-filed valves ws = rw (U .size, fits, index-sound, words-shown)
+  pub settings-filed : (lists : List (List ℕ)) → readSettings (length m) v s lists ≡ filedSettings lists (h .settings)
+  unfolding readSettings under
+  settings-filed lists = rw (U .size, fits, index-sound, words-shown)
 
-  settings-answers : (valves ws : List ℕ) (n : ℕ) → readSettings (length m) v s valves ws .answer ≡ Answer.turnedBack n → expected n ≡ true
-  unfolding expected every
-  settings-answers valves ws n e =
-      let f : filedSettings valves ws (h .settings) .answer ≡ Answer.turnedBack n = ap (λ (x : SettingsRead). x .answer) (sym (settings-filed valves ws)) ∙ e in
-      rw (settings-fairly valves ws (h .settings) n f)
+  settings-answers : (lists : List (List ℕ)) (n : ℕ) → readSettings (length m) v s lists ≡ refused n → expected n ≡ true
+  unfolding expected every filedSettings
+  settings-answers lists n e = rw (filed-fairly lists _ (length (h .settings)) n (sym (settings-filed lists) ∙ e))
 
-  append-answers : (ks ws : List ℕ) (n : ℕ) → appendOf (length m) v s bs ks ws ≡ Call.refused n → expected n ≡ true
+  append-answers : (ks ws : List ℕ) (n : ℕ) → appendOf (length m) v s bs ks ws ≡ refused n → expected n ≡ true
   unfolding appendOf expected every
-  append-answers ks ws = call-fair (appendNeeds (length m) v s bs ks ws) (starting s (append (zip ks ws) [])) (met (U .size) (met fits-with (may refl (may refl (may refl (may refl (may refl (may refl (may refl end)))))))))
+  append-answers ks ws =
+      call-fair (appendNeeds (length m) v s bs ks ws) (starting s (append (zip ks ws) []))
+      (met (U .size) (met fits-with (may refl (may refl (may refl (may refl (may refl (may refl (may refl end)))))))))
 
-  commit-answers : (n : ℕ) → commitOf (length m) v s bs ≡ Call.refused n → expected n ≡ true
+  commit-answers : (n : ℕ) → commitOf (length m) v s bs ≡ refused n → expected n ≡ true
   unfolding commitOf expected every
   commit-answers = call-fair (commitNeeds (length m) v s bs) (starting s (commit 0)) (met (U .size) (met fits-with (may refl (may refl (may refl (may refl end))))))
 
-  collect-answers : (b n : ℕ) → collectOf (length m) v s bs b ≡ Call.refused n → expected n ≡ true
+  collect-answers : (b n : ℕ) → collectOf (length m) v s bs b ≡ refused n → expected n ≡ true
   unfolding collectOf expected every
   collect-answers b =
       call-fair (collectNeeds (length m) v s bs b) (starting s (collect b))
       (met (U .size) (met fits-with (may refl (may refl (may refl (met (sound-part v (s .index) (live (s .index) b) index-sound (λ x i. in-live (s .index) b i)) (may refl (may refl end))))))))
 
-  flush-answers : (n : ℕ) → flushOf (length m) v s bs ≡ Call.refused n → expected n ≡ true
+  flush-answers : (n : ℕ) → flushOf (length m) v s bs ≡ refused n → expected n ≡ true
   unfolding flushOf expected every
   flush-answers = call-fair (flushNeeds (length m) v s bs) (starting s flush) (met (U .size) (met fits-with (may refl (may refl (may refl (may refl (may refl (may refl end))))))))
 
-  buffer-answers : (ks ws : List ℕ) (n : ℕ) → bufferOf (length m) v s bs ks ws ≡ Buffering.refused n → expected n ≡ true
+  buffer-answers : (ks ws : List ℕ) (n : ℕ) → bufferOf (length m) v s bs ks ws ≡ refused n → expected n ≡ true
   unfolding bufferOf expected every
   buffer-answers ks ws =
-      fair (λ (c : Buffering). (n : ℕ) → c ≡ Buffering.refused n → expected n ≡ true) Buffering.refused (Buffering.buffered (holding (bufferedIn bs ++ (zip ks ws ∷ [])))) (bufferNeeds (length m) v s bs ks ws)
-      (met (U .size) (met fits-with (may refl (may refl (may refl (may refl (may refl (may refl (may refl end))))))))) (λ k e n q. let z : k ≡ n = cc in rw z at e)
-      (λ n q. let z : _≡_ {A = ℕ} 0 1 = cc in absurd (omega arith))
+      call-fair (bufferNeeds (length m) v s bs ks ws) (holding (bufferedIn bs ++ (zip ks ws ∷ [])))
+      (met (U .size) (met fits-with (may refl (may refl (may refl (may refl (may refl (may refl (may refl end)))))))))
 
-  step-answers : (n : ℕ) → stepOf (length m) v s bs ≡ Step.refused n → expected n ≡ true
+  step-answers : (n : ℕ) → stepOf (length m) v s bs ≡ refused n → expected n ≡ true
   step-answers = go (stepOf (length m) v s bs) (step-ready v s h (U .coupled) r bs L (length m) (U .size))
     where
-      go : (st : Step) → StepReady v st → (n : ℕ) → st ≡ Step.refused n → expected n ≡ true
-      go (Step.refused k) R n e = let q : k ≡ n = cc in let t : expected k ≡ true = unfold StepReady in R in rw q at t
-      go (Step.program p pg s′ f) R n e = let z : _≡_ {A = ℕ} 0 1 = cc in absurd (omega arith)
-      go (Step.erase b s′ f) R n e = let z : _≡_ {A = ℕ} 0 1 = cc in absurd (omega arith)
+      go : (st : Answer Step) → StepReady v st → (n : ℕ) → st ≡ refused n → expected n ≡ true
+      go (refused k) R n e = let q : k ≡ n = cc in let t : expected k ≡ true = unfold StepReady in R in rw q at t
+      go (gives (Step.program p pg s′ f)) R n e = let z : _≡_ {A = ℕ} 0 1 = cc in absurd (omega arith)
+      go (gives (Step.erase b s′ f)) R n e = let z : _≡_ {A = ℕ} 0 1 = cc in absurd (omega arith)
 
-  state-met : {A : Type 0} (P : A → Type 0) (refused : ℕ → A) (a : A) → P a → P (checked refused (stateNeeds (length m) v s) a)
-  unfolding checked
-  state-met P refused a p = rw (U .size, fits) p
+  -- with 1 and 7 met
+  state-met : {A : Type 0} (x : A) (n : ℕ) → checked (stateNeeds (length m) v s) x ≡ refused n → ⊥
+  unfolding under
+  state-met x n e = given-refused x n (rw (U .size, fits) at e)
 
-  pick-answers : (n : ℕ) → pickOf (length m) v s ≡ Pick.turnedBack n → ⊥
-  unfolding pickOf
-  pick-answers = state-met (λ (c : Pick). (n : ℕ) → c ≡ Pick.turnedBack n → ⊥) Pick.turnedBack _ (none-back (pickBelow v (s .head) (s .index) (s .head .blocks)))
-    where
-      none-back : (o : Option ℕ) (n : ℕ) → pickedBlock o ≡ Pick.turnedBack n → ⊥
-      none-back none n e = let z : _≡_ {A = ℕ} 0 1 = cc in omega arith
-      none-back (some b) n e = let z : _≡_ {A = ℕ} 0 1 = cc in omega arith
-
-  survey-answers : (n : ℕ) → surveyOf (length m) v s ≡ Survey.turnedBack n → ⊥
-  unfolding surveyOf
-  survey-answers = state-met (λ (c : Survey). (n : ℕ) → c ≡ Survey.turnedBack n → ⊥) Survey.turnedBack _ (λ n e. let z : _≡_ {A = ℕ} 0 1 = cc in omega arith)
-
-  available-answers : (n : ℕ) → availableOf (length m) v s ≡ Supply.turnedBack n → ⊥
-  unfolding availableOf
-  available-answers = state-met (λ (c : Supply). (n : ℕ) → c ≡ Supply.turnedBack n → ⊥) Supply.turnedBack _ (λ n e. let z : _≡_ {A = ℕ} 0 1 = cc in omega arith)
-
-  abbrev Told-fairly : Opening → Type 0
-  Told-fairly o = (n : ℕ) → o ≡ Opening.turnedBack n → expected n ≡ true
-
-  opening-answers : (valve n : ℕ) → openingOf (length m) v s valve ≡ Opening.turnedBack n → expected n ≡ true
-  unfolding openingOf checked
-  opening-answers valve = by-cases (isSome (lookup valve (s .index))) set unset
-    where
-      back : (k : ℕ) → expected k ≡ true → Told-fairly (Opening.turnedBack k)
-      back k e n q = let z : k ≡ n = cc in rw z at e
-
-      set : isSome (lookup valve (s .index)) ≡ true → Told-fairly (checked Opening.turnedBack (openingNeeds (length m) v s valve) (Opening.word (valueOr 0 (wordAt v (placeOf s valve)))))
-      set e = unfold checked in rw (U .size, fits, e, has-word valve e) (λ n q. let z : _≡_ {A = ℕ} 0 1 = cc in absurd (omega arith))
-
-      unset : isSome (lookup valve (s .index)) ≡ false → Told-fairly (checked Opening.turnedBack (openingNeeds (length m) v s valve) (Opening.word (valueOr 0 (wordAt v (placeOf s valve)))))
-      unset e = unfold checked in rw (U .size, fits, e) (back 18 (unfold expected every in refl))
+  opening-answers : (valve n : ℕ) → openingOf (length m) v s valve ≡ refused n → expected n ≡ true
+  unfolding openingOf under expected every
+  opening-answers valve n e =
+      by-cases (isSome (lookup valve (s .index)))
+      (λ q. call-fair (openingNeeds (length m) v s valve) _ (met (U .size) (met fits (met q (met (has-word valve q) end)))) n e)
+      (λ q. let z : 18 ≡ n = same-refusal 18 n (rw (U .size, fits, q) at e) in rw (← z))
 
   word-answers : (valve : ℕ) → expected (wordRefusal m v s bs valve) ≡ true
-  unfolding wordRefusal sought soughtIn refusalOf checked expected every
+  unfolding wordRefusal sought soughtIn refusalOf answerOr under expected every
   word-answers valve = go (lastNaming valve 0 (changesOf (bufferedIn bs)))
     where
-      go : (o : Option ℕ) → expected (refusalOf (need 1 (sizeOk (length m)) ∷ need 7 (fitWith v s bs) ∷ soughtIn m v s bs valve o .needs)) ≡ true
+      go : (o : Option ℕ) → expected (refusalOf (need 1 (sizeOk (length m)) ∷ need 7 (fitWith v s bs) ∷ soughtIn v s bs valve o .needs)) ≡ true
       go (some i) = by-cases (setsAt (changesOf (bufferedIn bs)) i) (λ e. rw (U .size, fits-with, e)) (λ e. rw (U .size, fits-with, e))
       go none =
           by-cases (isSome (lookup valve (s .index))) (λ e. rw (U .size, fits-with, e, has-word valve e)) (λ e. rw (U .size, fits-with, e))
@@ -409,7 +381,7 @@ steady w h s R e = answers (w .medium) (w .buffer) (w .state) (reached-upheld w 
           opening = opening-answers m t bs h U r′;
           word = word-answers m t bs h U r′;
           settings = settings-answers m t bs h U r′;
-          pick = pick-answers m t bs h U r′;
-          survey = survey-answers m t bs h U r′;
-          available = available-answers m t bs h U r′;
+          pick = unfold pickOf in state-met m t bs h U r′ _;
+          survey = unfold surveyOf in state-met m t bs h U r′ _;
+          available = unfold availableOf in state-met m t bs h U r′ _;
         })

@@ -10,6 +10,7 @@ use lib.ListN.{length, set, length-append}
 use borrow.Author.Tests.{leb-true, leb-false, le-leb, eq-eqb, ne-eqb}
 use Rattle.lists.specs.declared.Cell.{Cell}
 use Rattle.lists.specs.Lists.{all, every, valueOr}
+use Rattle.lists.specs.Needs.{under}
 use Rattle.lists.specs.Cells.{cell, Entry, Place, Setting, keysOf}
 use Rattle.lists.proofs.Laws.{every-at, all-head}
 use Rattle.page.specs.Pages.{Page, View, whole, page, begins, ends, isClean, pagesFor, changesOf}
@@ -21,11 +22,13 @@ use Rattle.flash.proofs.Steps.{seen-set}
 use Rattle.index.specs.Index.{rising, within, assignAll}
 use Rattle.nodes.specs.Nodes.{setsValves, wordAt, words}
 use Rattle.state.specs.State.{idle, append, commit, collect, Held, held, basePages, groupOk, flushOk}
-use Rattle.recovery.specs.Recovery.{Placed, placed, kindOf, wholes, sort, baseOf, startsGroup, goesOn, from, consecutive, Group, group, between, joined, begun, walk, groupsOf, entriesOf, groupsOnPages, logOfGroup, logOf, pagesOf, above, enterPages}
+use Rattle.recovery.specs.Recovery.{Placed, placed, kindOf, wholes, sort, baseOf, startsGroup, goesOn, from, consecutive, Group, group, between, joined, begun, walk, groupsOf, entriesOf, groupsOnPages, entersLog, logOfGroup, logOf, pagesOf, above, enterPages}
 use Rattle.recovery.proofs.Pages.{pages-append}
-use Rattle.step.specs.Step.{isLast, groupPage, moved, addressed, appended, committed, collected, flushed}
+use Rattle.calls.proofs.Laws.{some-groups}
+use Rattle.step.specs.Step.{isLast, groupPage, headAfter, addressed, appended, committed, collected, flushed}
 use Rattle.valve_log.specs.History.{nothing, appending, committing, collecting, flushing, History, history, assignGroups, counted}
-use Rattle.valve_log.proofs.Order.{from-parts, from-from, from-sort, walk-append, isBegin, base-snoc, base-group, starts-one, starts-more, consecutive-left, consecutive-right, consecutive-reaches, consecutive-below}
+use Rattle.valve_log.proofs.Order.{from-parts, from-from, from-sort, walk-append, isBegin, base-snoc, base-group, starts-one}
+use Rattle.valve_log.proofs.Order.{starts-more, consecutive-left, consecutive-right, consecutive-reaches, consecutive-below}
 use Rattle.index.proofs.Keys.{within-same}
 use Rattle.index.proofs.Members.{In, in-all, all-in}
 use Rattle.nodes.proofs.Alive.{keys-words, words-length, rising-words}
@@ -33,7 +36,8 @@ use Rattle.valve_log.proofs.Index.{valves, nodes, nodesOf, keys-group, 
 use Rattle.flash.proofs.Laws.{clean-in}
 use Rattle.valve_log.proofs.Present.{PresentAll, nil, cons, present-snoc, present-set, group-words, group-sound}
 use Rattle.valve_log.proofs.Small.{Small}
-use Rattle.valve_log.proofs.Groups.{lay, ends-page, begins-page, page-most, lawful-nodes, lawful-base, lawful-moves, lay-snoc, lay-length, lay-all, lay-kind, lay-begins, Opened, enter-begin, enter-page, opened-any}
+use Rattle.valve_log.proofs.Groups.{lay, ends-page, begins-page, page-most, lawful-nodes, lawful-base, lawful-moves, lay-snoc, lay-length, lay-all}
+use Rattle.valve_log.proofs.Groups.{lay-kind, lay-begins, Opened, enter-begin, enter-page, opened-any}
 use Rattle.valve_log.proofs.Replay.{enter-pages-append, enter-group, enter-base, log-append, addressed-laid, addressed-one}
 use Rattle.valve_log.proofs.Sound.{Sound, grown}
 use Rattle.valve_log.proofs.Coupling.{at-rest, in-append, in-commit, in-collect, alive, Coupled, Fits}
@@ -89,7 +93,12 @@ goes-laid es k s q [] h e =
     rw (begins-page 2 es k s, ne-eqb k 0 (λ c. omega arith), ends-page 2 es k s, rw z at e) (unfold groupPage in rw (eq-eqb s s refl))
 goes-laid es k s q (r ∷ qs) h e =
     let z : k + suc (length qs) ≡ suc k + length qs = omega arith in
-    rw (begins-page 2 es k s, ne-eqb k 0 (λ c. omega arith), or-right (ends (groupPage 2 es k s)) (goesOn 2 (suc s) (lay 2 es (suc k) (suc s) (r ∷ qs))) (goes-laid es (suc k) (suc s) r qs (omega arith) (rw z at e))) (unfold groupPage in rw (eq-eqb s s refl))
+    rw (
+      begins-page 2 es k s,
+      ne-eqb k 0 (λ c. omega arith),
+      or-right (ends (groupPage 2 es k s)) (goesOn 2 (suc s) (lay 2 es (suc k) (suc s) (r ∷ qs)))
+          (goes-laid es (suc k) (suc s) r qs (omega arith) (rw z at e)),
+    ) (unfold groupPage in rw (eq-eqb s s refl))
 
 base-laid : (es : List Entry) (f q : ℕ) (qs : List ℕ) → isLast (length qs) (length es) ≡ true → baseOf (lay 2 es 0 f (q ∷ qs)) ≡ some f
 unfolding lay
@@ -165,7 +174,8 @@ serial-ok n a b = let m : n ≤ 2 ^ 64 - 2 = omega arith in rw (le-leb 1 n a, le
 
 -- ---- a page more
 
-module _ (v : List View) (s : Held) (h : History) {ch : List Placed} {gs : List Group} (S : Sound v (h .log) (h .settings) (s .head .base) ch gs (s .index)) (ser : s .head .serial ≡ s .head .base + length ch) where
+module _ (v : List View) (s : Held) (h : History) {ch : List Placed} {gs : List Group}
+    (S : Sound v (h .log) (h .settings) (s .head .base) ch gs (s .index)) (ser : s .head .serial ≡ s .head .base + length ch) where
   -- the group stays open
   longer : (p : ℕ) (pg : Page) → isClean (seen v p) ≡ true → lawful pg ≡ true → pg .serial ≡ s .head .serial → groupsOf (walk (between []) (ch ++ (placed p pg ∷ []))) ≡ some gs
       → (eqb (pg .kind) 2 && ends pg) ≡ false → Sound (set v p (whole pg)) (h .log) (h .settings) (s .head .base) (ch ++ (placed p pg ∷ [])) gs (s .index)
@@ -227,7 +237,8 @@ module _ (v : List View) (s : Held) (h : History) {ch : List Placed} {gs : List 
 
   module _ (es : List Entry) (ps : List ℕ) (left f p : ℕ) (small : Small es) (lefts : left + length ps ≡ pagesFor (length es)) (firsts : f + length ps ≡ s .head .serial)
       (openeds : Opened 1 (walk (between []) ch) gs (lay 1 es 0 f ps)) (presents : PresentAll v (lay 1 es 0 f ps))
-      (okays : groupOk (s .index) es ≡ true) (fewer : length ps < pagesFor (length es)) (starts : 1 ≤ s .head .serial) (room : s .head .serial + 1 ≤ 2 ^ 64 - 1) (cleans : isClean (seen v p) ≡ true) where
+      (okays : groupOk (s .index) es ≡ true) (fewer : length ps < pagesFor (length es)) (starts : 1 ≤ s .head .serial)
+      (room : s .head .serial + 1 ≤ 2 ^ 64 - 1) (cleans : isClean (seen v p) ≡ true) where
     abbrev serial : ℕ
     serial = s .head .serial
 
@@ -264,7 +275,7 @@ module _ (v : List View) (s : Held) (h : History) {ch : List Placed} {gs : List 
         (record { there = seen-set v p (whole pg) (clean-in v p cleans); bears = unfold setsValves groupPage in refl; short = page-most 1 es (length ps) serial })
 
     pub ap-more : isLast (length ps) (length es) ≡ false → Coupled (set v p (whole pg)) (some (appended s es ps p)) (counted h (appending es left))
-    unfolding appended moved
+    unfolding appended headAfter
     ap-more e =
         let n = more-left (length es) (length ps) left ap-lefts e in
         let w = ap-walk ∙ ap (joined gs 1 written) e in
@@ -277,7 +288,7 @@ module _ (v : List View) (s : Held) (h : History) {ch : List Placed} {gs : List 
           idx = s .index;
           medium = longer p pg cleans ap-lawful (page-serial 1 es (length ps) serial) (ap groupsOf w ∙ (unfold joined groupsOf in refl)) (unfold groupPage in refl);
           memory =
-              alive {s = held (moved (s .head) p (s .head .base)) (s .index) (append es (ps ++ (p ∷ []))) (s .erased)}
+              alive {s = held (headAfter (s .head) p (s .head .base)) (s .index) (append es (ps ++ (p ∷ []))) (s .erased)}
               (record {
                 serials = omega (arith, length-append ch (placed p pg ∷ []));
                 bases = refl;
@@ -290,7 +301,7 @@ module _ (v : List View) (s : Held) (h : History) {ch : List Placed} {gs : List 
         })
 
     pub ap-last : isLast (length ps) (length es) ≡ true → Coupled (set v p (whole pg)) (some (appended s es ps p)) (counted h (appending es left))
-    unfolding appended moved
+    unfolding appended headAfter
     ap-last e =
         let n = last-left (length es) (length ps) left ap-lefts ap-fewer e in
         let w = ap-walk ∙ ap (joined gs 1 written) e in
@@ -301,10 +312,11 @@ module _ (v : List View) (s : Held) (h : History) {ch : List Placed} {gs : List 
           gs = gs ++ (group 1 written ∷ []);
           idx = assignAll (s .index) (nodesOf written);
           medium =
-              complete p pg (group 1 written) (h .log ++ (es ∷ [])) (assignAll (h .settings) es) cleans ap-lawful (page-serial 1 es (length ps) serial) (unfold groupPage in refl) refl (w ∙ (unfold joined in refl))
+              complete p pg (group 1 written) (h .log ++ (es ∷ [])) (assignAll (h .settings) es) cleans ap-lawful
+              (page-serial 1 es (length ps) serial) (unfold groupPage in refl) refl (w ∙ (unfold joined in refl))
               (laid-kind 1 es ps f p serial firsts) within-is ap-present log-is (ap (assignAll (h .settings)) entries-are);
           memory =
-              alive {s = held (moved (s .head) p (s .head .base)) (assignAll (s .index) (addressed es (ps ++ (p ∷ [])))) idle (s .erased)}
+              alive {s = held (headAfter (s .head) p (s .head .base)) (assignAll (s .index) (addressed es (ps ++ (p ∷ [])))) idle (s .erased)}
               (record {
                 serials = omega (arith, length-append ch (placed p pg ∷ []));
                 bases = refl;
@@ -320,7 +332,7 @@ module _ (v : List View) (s : Held) (h : History) {ch : List Placed} {gs : List 
         within-is = within-same (s .index) (s .index) (nodesOf written) es refl (keys-group written ∙ ap keysOf entries-are) ∙ (unfold groupOk in every-at 3 _ okays)
 
         log-is : h .log ++ logOf (group 1 written ∷ []) ≡ h .log ++ (es ∷ [])
-        log-is = unfold logOf logOfGroup in ap (λ (z : List Entry). h .log ++ (z ∷ [])) entries-are
+        log-is = unfold logOf logOfGroup entersLog in ap (λ (z : List Entry). h .log ++ (z ∷ [])) entries-are
 
   -- ---- a page of a commit
 
@@ -349,13 +361,15 @@ module _ (v : List View) (s : Held) (h : History) {ch : List Placed} {gs : List 
     cm-walk = walk-append (between []) ch (placed p bp ∷ []) ∙ (unfold walk in enter-page 2 (walk (between []) ch) gs (s .index) f now ps p (S .walks) openeds not-one)
 
     cm-alone : walk (between []) stored ≡ joined [] 2 stored (isLast (length ps) (length (s .index)))
-    cm-alone = walk-append (between []) (lay 2 (s .index) 0 f ps) (placed p bp ∷ []) ∙ (unfold walk in enter-page 2 (walk (between []) (lay 2 (s .index) 0 f ps)) [] (s .index) f now ps p alone-groups alone not-one)
+    cm-alone =
+        walk-append (between []) (lay 2 (s .index) 0 f ps) (placed p bp ∷ [])
+        ∙ (unfold walk in enter-page 2 (walk (between []) (lay 2 (s .index) 0 f ps)) [] (s .index) f now ps p alone-groups alone not-one)
 
     cm-split : ch ++ (placed p bp ∷ []) ≡ pre ++ stored
     cm-split = ap (λ (t : List Placed). t ++ (placed p bp ∷ [])) split ∙ append-assoc pre (lay 2 (s .index) 0 f ps) (placed p bp ∷ [])
 
     pub cm-more : isLast (length ps) (length (s .index)) ≡ false → Coupled (set v p (whole bp)) (some (committed s (length ps) p)) (counted h (committing left))
-    unfolding committed moved
+    unfolding committed headAfter
     cm-more e =
         let n = more-left (length (s .index)) (length ps) left lefts e in
         let w = cm-walk ∙ ap (joined gs 2 stored) e in
@@ -368,9 +382,11 @@ module _ (v : List View) (s : Held) (h : History) {ch : List Placed} {gs : List 
           ch = ch ++ (placed p bp ∷ []);
           gs = gs;
           idx = s .index;
-          medium = longer p bp cleans cm-lawful (page-serial 2 (s .index) (length ps) now) (ap groupsOf w ∙ (unfold joined groupsOf in refl)) (rw (ends-page 2 (s .index) (length ps) now, e) (and-false (eqb (bp .kind) 2)));
+          medium =
+              longer p bp cleans cm-lawful (page-serial 2 (s .index) (length ps) now) (ap groupsOf w ∙ (unfold joined groupsOf in refl))
+              (rw (ends-page 2 (s .index) (length ps) now, e) (and-false (eqb (bp .kind) 2)));
           memory =
-              alive {s = held (moved (s .head) p (s .head .base)) (s .index) (commit (suc (length ps))) (s .erased)}
+              alive {s = held (headAfter (s .head) p (s .head .base)) (s .index) (commit (suc (length ps))) (s .erased)}
               (record {
                 serials = omega (arith, length-append ch (placed p bp ∷ []));
                 bases = refl;
@@ -410,7 +426,7 @@ module _ (v : List View) (s : Held) (h : History) {ch : List Placed} {gs : List 
           based = laid-base 2 (s .index) ps f p now firsts e refl;
           walks = ap groupsOf (cm-alone ∙ ap (joined [] 2 stored) e) ∙ (unfold joined groupsOf in refl);
           replays = replayed;
-          logs = unfold logOf logOfGroup in refl;
+          logs = unfold logOf logOfGroup entersLog in refl;
           sounds = g .sounds;
           shows = g .shows;
           tidy = S .tidy;
@@ -428,7 +444,7 @@ module _ (v : List View) (s : Held) (h : History) {ch : List Placed} {gs : List 
             ∙ ap some entries-are
 
     pub cm-last : isLast (length ps) (length (s .index)) ≡ true → Coupled (set v p (whole bp)) (some (committed s (length ps) p)) (counted h (committing left))
-    unfolding committed moved
+    unfolding committed headAfter
     cm-last e =
         let n = last-left (length (s .index)) (length ps) left lefts fewer e in
         let t = laid-size 2 (s .index) ps f p now firsts in
@@ -439,7 +455,7 @@ module _ (v : List View) (s : Held) (h : History) {ch : List Placed} {gs : List 
           gs = group 2 stored ∷ [];
           idx = s .index;
           medium = cm-sound e;
-          memory = alive {s = held (moved (s .head) p (s .head .serial - length ps)) (s .index) idle (s .erased)} (record { serials = omega arith; bases = omega arith; indices = refl; pends = at-rest });
+          memory = alive {s = held (headAfter (s .head) p (s .head .serial - length ps)) (s .index) idle (s .erased)} (record { serials = omega arith; bases = omega arith; indices = refl; pends = at-rest });
         })
 
   -- ---- a page of a collection
@@ -485,7 +501,7 @@ module _ (v : List View) (s : Held) (h : History) {ch : List Placed} {gs : List 
     cl-present = cons (record { there = seen-set v p (whole mp) (clean-in v p cleans); bears = unfold setsValves in refl; short = omega (arith, words-length v moves) }) nil
 
     pub cl-more : Coupled (set v p (whole mp)) (some (collected s blk moves p)) h
-    unfolding collected moved
+    unfolding collected headAfter
     cl-more =
         record {
           b = s .head .base;
@@ -494,20 +510,21 @@ module _ (v : List View) (s : Held) (h : History) {ch : List Placed} {gs : List 
           idx = assignAll (s .index) (nodesOf (placed p mp ∷ []));
           medium =
               complete p mp (group 3 (placed p mp ∷ [])) (h .log) (h .settings) cleans cl-lawful refl refl refl cl-walk (unfold all in refl) cl-within cl-present
-              (unfold logOf logOfGroup in append-nil (h .log)) (ap (assignAll (h .settings)) cl-entries ∙ move-same v (h .settings) moves cl-rising cl-mem cl-valves);
+              (unfold logOf logOfGroup entersLog in append-nil (h .log)) (ap (assignAll (h .settings)) cl-entries ∙ move-same v (h .settings) moves cl-rising cl-mem cl-valves);
           memory =
-              alive {s = held (moved (s .head) p (s .head .base)) (assignAll (s .index) (addressed moves (p ∷ []))) (collect blk) (s .erased)}
+              alive {s = held (headAfter (s .head) p (s .head .base)) (assignAll (s .index) (addressed moves (p ∷ []))) (collect blk) (s .erased)}
               (record { serials = omega (arith, length-append ch (placed p mp ∷ [])); bases = refl; indices = ap (assignAll (s .index)) cl-nodes; pends = rw under in-collect });
         }
 
   -- ---- the page of a flush
 
-  module _ (small : List (List Entry)) (p : ℕ) (fitting : Fitting small) (okays : flushOk (s .index) small ≡ true) (starts : 1 ≤ s .head .serial) (room : s .head .serial + 1 ≤ 2 ^ 64 - 1) (cleans : isClean (seen v p) ≡ true) where
+  module _ (small : List (List Entry)) (p : ℕ) (fitting : Fitting small) (okays : flushOk (s .index) small ≡ true)
+      (starts : 1 ≤ s .head .serial) (room : s .head .serial + 1 ≤ 2 ^ 64 - 1) (cleans : isClean (seen v p) ≡ true) where
     abbrev fp : Page
     fp = groupsPage (s .head .serial) small
 
     fl-many : 1 ≤ length (changesOf small)
-    fl-many = some-entries small (fitting .each) (unfold flushOk in leb-true 1 (length small) (every-at 0 _ okays))
+    fl-many = some-entries small (fitting .each) (unfold flushOk in some-groups small (every-at 0 _ okays))
 
     pub fl-lawful : lawful fp ≡ true
     fl-lawful = lawful-groups (s .head .serial) small fitting fl-many (serial-ok (s .head .serial) starts room)
@@ -534,11 +551,11 @@ module _ (v : List View) (s : Held) (h : History) {ch : List Placed} {gs : List 
     fl-present = cons (record { there = seen-set v p (whole fp) (clean-in v p cleans); bears = unfold setsValves groupsPage in refl; short = unfold groupsPage in omega (arith, fitting .few) }) nil
 
     fl-log : h .log ++ logOf (group 4 (placed p fp ∷ []) ∷ []) ≡ h .log ++ small
-    unfolding logOf logOfGroup groupsOnPages
+    unfolding logOf logOfGroup entersLog groupsOnPages
     fl-log = ap (λ (z : List (List Entry)). h .log ++ z) (append-nil (groupsIn fp ++ []) ∙ append-nil (groupsIn fp) ∙ groups-back (s .head .serial) small fitting)
 
     pub fl-last : Coupled (set v p (whole fp)) (some (flushed s small p)) (counted h (flushing small 1))
-    unfolding flushed moved counted
+    unfolding flushed headAfter counted
     fl-last =
         record {
           b = s .head .base;
@@ -550,6 +567,6 @@ module _ (v : List View) (s : Held) (h : History) {ch : List Placed} {gs : List 
               (unfold all groupsPage in refl) fl-within fl-present
               fl-log (ap (assignAll (h .settings)) fl-entries ∙ sym (assign-groups (h .settings) small));
           memory =
-              alive {s = held (moved (s .head) p (s .head .base)) (assignAll (s .index) (addressed (changesOf small) (p ∷ []))) idle (s .erased)}
+              alive {s = held (headAfter (s .head) p (s .head .base)) (assignAll (s .index) (addressed (changesOf small) (p ∷ []))) idle (s .erased)}
               (record { serials = omega (arith, length-append ch (placed p fp ∷ [])); bases = refl; indices = ap (assignAll (s .index)) fl-nodes; pends = at-rest });
         }

@@ -16,7 +16,7 @@ use Rattle.flash.specs.Medium.{seen, whollyClean}
 use Rattle.flash.proofs.Steps.{seen-set-other}
 use Rattle.blocks.specs.declared.Head.{Head}
 use Rattle.blocks.specs.Blocks.{spare, available, wrap, firstClean, newHead, pageDue}
-use Rattle.step.specs.Step.{moved}
+use Rattle.step.specs.Step.{headAfter}
 
 -- ---- scans that agree
 
@@ -67,7 +67,8 @@ clean-page v b i w h = below-at 16 (λ i. isClean (seen v (16 * b + i))) w i h
 
 pub clean-elsewhere : (v : List View) (p b : ℕ) (x : View) → (p / 16 ≡ b → ⊥) → whollyClean (set v p x) b ≡ whollyClean v b
 unfolding whollyClean
-clean-elsewhere v p b x n = below-same 16 (λ i. isClean (seen (set v p x) (16 * b + i))) (λ i. isClean (seen v (16 * b + i))) (λ i l. ap isClean (seen-set-other v p (16 * b + i) x (λ e. n (omega arith))))
+clean-elsewhere v p b x n =
+    below-same 16 (λ i. isClean (seen (set v p x) (16 * b + i))) (λ i. isClean (seen v (16 * b + i))) (λ i l. ap isClean (seen-set-other v p (16 * b + i) x (λ e. n (omega arith))))
 
 -- a spare block
 spare-is : (v : List View) (head b : ℕ) → (b ≡ head → ⊥) → whollyClean v b ≡ true → spare v head b ≡ true
@@ -126,7 +127,8 @@ way blocks head b p q n = go (decLt head b)
         below (yes k) = k
         below (no k) = absurd (n (omega arith))
 
-found-head : (v : List View) (blocks head k n j : ℕ) → head < blocks → 1 ≤ k → k + n ≤ blocks → k ≤ j → j < k + n → whollyClean v (wrap blocks (head + j)) ≡ true → NewHead v blocks head (firstClean v blocks head k n)
+found-head : (v : List View) (blocks head k n j : ℕ) → head < blocks → 1 ≤ k → k + n ≤ blocks → k ≤ j → j < k + n
+    → whollyClean v (wrap blocks (head + j)) ≡ true → NewHead v blocks head (firstClean v blocks head k n)
 unfolding firstClean
 found-head v blocks head k zero j h lo room a b w = absurd (omega arith)
 found-head v blocks head k (suc n) j h lo room a b w =
@@ -200,8 +202,8 @@ module _ (v : List View) (h : Head) (p base : ℕ) (x : View) (r : HeadReady v h
       inr (spare-is (set v p x) (p / 16) b q (clean-elsewhere v p b x (λ y. q (sym y)) ∙ spare-clean v (h .block) b e))
 
   -- at most one page is taken away
-  pub available-after : Which v h p → available v h ≤ suc (available (set v p x) (moved h p base))
-  unfolding available moved
+  pub available-after : Which v h p → available v h ≤ suc (available (set v p x) (headAfter h p base))
+  unfolding available headAfter
   available-after (in-head l e) =
       let k : p / 16 ≡ h .block = omega arith in
       let n : p % 16 ≡ h .next = omega arith in
@@ -215,8 +217,8 @@ module _ (v : List View) (h : Head) (p base : ℕ) (x : View) (r : HeadReady v h
       let z : oneIf (ltb (p / 16) (h .blocks)) ≡ 1 = rw (lt-ltb (p / 16) (h .blocks) (omega arith)) (unfold oneIf in refl) in
       omega (arith, c, z, r .high)
 
-  pub ready-after : Which v h p → HeadReady (set v p x) (moved h p base)
-  unfolding moved
+  pub ready-after : Which v h p → HeadReady (set v p x) (headAfter h p base)
+  unfolding headAfter
   ready-after (in-head l e) =
       let k : p / 16 ≡ h .block = omega arith in
       let n : p % 16 ≡ h .next = omega arith in

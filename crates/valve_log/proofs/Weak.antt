@@ -11,7 +11,7 @@ use native.Mathlib.Decide.{decLt, ℕ-discrete}
 use lib.Dec.{ltb, eqb}
 use lib.ListN.{length, take}
 use borrow.Author.Tests.{ltb-false, lt-ltb, le-ltb, eq-eqb, ne-eqb}
-use Rattle.lists.specs.Needs.{Need, need, checked}
+use Rattle.lists.specs.Needs.{Answer, refused, gives, Need, need, under, checked}
 use Rattle.lists.specs.Cells.{Entry, Place}
 use Rattle.lists.proofs.Laws.{by-cases, true-false, every-at, tests, checked-cases}
 use Rattle.page.specs.Pages.{Page, View, isClean}
@@ -23,8 +23,8 @@ use Rattle.state.specs.State.{Pending, idle, append, commit, collect, format, f
 use Rattle.state.proofs.Records.{none-was, none-length, others-was, now-length}
 use Rattle.recovery.specs.Recovery.{Recovery, recoveredState}
 use Rattle.recovery.specs.Recovery
-use Rattle.calls.specs.Calls.{Call, Buffering, starting, zip, appendOf, commitOf, collectOf, bufferOf, flushOf, formatting, formatOf}
-use Rattle.step.specs.Step.{Step, isLast, moved, appended, committed, collected, flushed, formatted, erasing, pageNeeds, programming, appendStep, commitStep, moveStep, collectStep, formatStep, flushStep, due, programsDue, needsErase, erasedFirst, stepOf}
+use Rattle.calls.specs.Calls.{starting, zip, appendOf, commitOf, collectOf, bufferOf, flushOf, formatting, formatOf}
+use Rattle.step.specs.Step.{Step, isLast, headAfter, appended, committed, collected, flushed, formatted, erasing, pageNeeds, programming, appendStep, commitStep, moveStep, collectStep, formatStep, flushStep, due, programsDue, needsErase, erasedFirst, stepOf}
 use Rattle.step.proofs.Laws.{has-record, first-cases}
 use Rattle.valve_log.specs.History.{History, Told, beganAppend, beganCommit, beganCollect, putIn, beganFlush}
 use Rattle.valve_log.specs.Reached.{World, world, withState, stepDue, Event, called, filled, stepped, cutShort, recovered, happen, Formatting, Reached}
@@ -43,13 +43,13 @@ other-block : (weak : Weak) (b c : ℕ) (cut : Bool) → (c ≡ b → ⊥) → a
 unfolding afterErase
 other-block weak b c cut n = rw (ne-eqb c b n)
 
-other-step : (weak : Weak) (st : Step) (cut : Bool) (c : ℕ) → ((b : ℕ) (s : Held) (finished : Bool) → st ≡ Step.erase b s finished → c ≡ b → ⊥) → afterStep st cut weak c ≡ weak c
+other-step : (weak : Weak) (st : Answer Step) (cut : Bool) (c : ℕ) → ((b : ℕ) (s : Held) (finished : Bool) → st ≡ gives (Step.erase b s finished) → c ≡ b → ⊥) → afterStep st cut weak c ≡ weak c
 unfolding afterStep
-other-step weak (Step.refused n) cut c f = refl
-other-step weak (Step.program p pg s finished) cut c f = refl
-other-step weak (Step.erase b s finished) cut c f = other-block weak b c cut (f b s finished refl)
+other-step weak (refused n) cut c f = refl
+other-step weak (gives (Step.program p pg s finished)) cut c f = refl
+other-step weak (gives (Step.erase b s finished)) cut c f = other-block weak b c cut (f b s finished refl)
 
-other-after : (weak : Weak) (w : World) (e : Event w) (c : ℕ) → ((b : ℕ) (s : Held) (finished : Bool) → stepDue w ≡ Step.erase b s finished → c ≡ b → ⊥) → weakAfter w e weak c ≡ weak c
+other-after : (weak : Weak) (w : World) (e : Event w) (c : ℕ) → ((b : ℕ) (s : Held) (finished : Bool) → stepDue w ≡ gives (Step.erase b s finished) → c ≡ b → ⊥) → weakAfter w e weak c ≡ weak c
 unfolding weakAfter
 other-after weak w (Event.append ks ws narrow small) c f = refl
 other-after weak w Event.commit c f = refl
@@ -84,12 +84,12 @@ Kept weak none = Unit {0}
 Kept weak (some s) = Guard weak s
 
 -- what a step may be
-unfoldable pub Careful : Weak → Step → Type 0
-Careful weak (Step.refused n) = Unit {0}
-Careful weak (Step.program p pg s finished) = (weak (p / 16) ≡ false) × Guard weak s
-Careful weak (Step.erase b s finished) = Guard (afterErase b false weak) s
+unfoldable pub Careful : Weak → Answer Step → Type 0
+Careful weak (refused n) = Unit {0}
+Careful weak (gives (Step.program p pg s finished)) = (weak (p / 16) ≡ false) × Guard weak s
+Careful weak (gives (Step.erase b s finished)) = Guard (afterErase b false weak) s
 
-refused-careful : (weak : Weak) (n : ℕ) → Careful weak (Step.refused n)
+refused-careful : (weak : Weak) (n : ℕ) → Careful weak (refused n)
 unfolding Careful
 refused-careful weak n = tt
 
@@ -116,7 +116,8 @@ erase-guard weak s b p G f =
 
 -- ---- after a page
 
-page-guard : (weak : Weak) (s s′ : Held) (p : ℕ) → Guard weak s → s′ .erased ≡ s .erased → s′ .head .blocks ≡ s .head .blocks → s′ .head .block ≡ p / 16 → ((n : ℕ) → s′ .pending ≡ format n → ⊥) → weak (p / 16) ≡ false → Guard weak s′
+page-guard : (weak : Weak) (s s′ : Held) (p : ℕ) → Guard weak s → s′ .erased ≡ s .erased → s′ .head .blocks ≡ s .head .blocks
+    → s′ .head .block ≡ p / 16 → ((n : ℕ) → s′ .pending ≡ format n → ⊥) → weak (p / 16) ≡ false → Guard weak s′
 page-guard weak s s′ p G e k b n w =
     record {
       long = ap length e ∙ G .long ∙ sym k;
@@ -174,32 +175,33 @@ module _ (weak : Weak) (m : List ℕ) (s : Held) (size : sizeOk (length m) ≡ t
           rw d (G .marks (newHead v (s .head)) (has-record v s e o (omega arith) (omega (arith, clean-in v p c, pages))))
 
   -- 14 and 16 passed
-  programming-careful : (pg : Page) (s′ : Held) (finished : Bool) → needsErase v s ≡ false → programsDue (s .index) (s .pending) ≡ true → (weak (p / 16) ≡ false → Guard weak s′) → Careful weak (programming v (s .head) p pg s′ finished)
+  programming-careful : (pg : Page) (s′ : Held) (finished : Bool) → needsErase v s ≡ false → programsDue (s .index) (s .pending) ≡ true
+      → (weak (p / 16) ≡ false → Guard weak s′) → Careful weak (programming v (s .head) p pg s′ finished)
   unfolding programming
   programming-careful pg s′ finished e o f =
-      checked-cases (Careful weak) Step.refused (pageNeeds v (s .head) p) (Step.program p pg s′ finished) (refused-careful weak)
+      checked-cases (Careful weak) (pageNeeds v (s .head) p) (gives (Step.program p pg s′ finished)) (refused-careful weak)
       (λ t. let w = due-strong e o (unfold tests in every-at 1 _ t) in unfold Careful in (w, f w))
 
   append-guard : (es : List Entry) (ps : List ℕ) → weak (p / 16) ≡ false → Guard weak (appended s es ps p)
-  unfolding appended moved
+  unfolding appended headAfter
   append-guard es ps w =
       by-cases (isLast (length ps) (length es))
       (λ l. rw l (page-guard weak s _ p G refl refl refl idle-format w))
       (λ l. rw l (page-guard weak s _ p G refl refl refl (append-format es _) w))
 
   commit-guard : (k : ℕ) → weak (p / 16) ≡ false → Guard weak (committed s k p)
-  unfolding committed moved
+  unfolding committed headAfter
   commit-guard k w =
       by-cases (isLast k (length (s .index)))
       (λ l. rw l (page-guard weak s _ p G refl refl refl idle-format w))
       (λ l. rw l (page-guard weak s _ p G refl refl refl (commit-format (suc k)) w))
 
   collect-guard : (b : ℕ) (moves : List Place) → weak (p / 16) ≡ false → Guard weak (collected s b moves p)
-  unfolding collected moved
+  unfolding collected headAfter
   collect-guard b moves w = page-guard weak s _ p G refl refl refl (collect-format b) w
 
   flush-guard : (gs : List (List Entry)) → weak (p / 16) ≡ false → Guard weak (flushed s gs p)
-  unfolding flushed moved
+  unfolding flushed headAfter
   flush-guard gs w = page-guard weak s _ p G refl refl refl idle-format w
 
   collect-careful : (b : ℕ) (l : List Place) → needsErase v s ≡ false → s .pending ≡ collect b → live (s .index) b ≡ l → Careful weak (collectStep v s b l)
@@ -207,14 +209,14 @@ module _ (weak : Weak) (m : List ℕ) (s : Held) (size : sizeOk (length m) ≡ t
   collect-careful b [] r e q = unfold Careful in erase-guard weak s b idle G (λ n e c h. absurd (idle-format n e))
   collect-careful b (x ∷ xs) r e q =
       unfold moveStep in
-      checked-cases (Careful weak) Step.refused _ _ (refused-careful weak) (λ t. programming-careful _ _ false r (moves-program (s .index) b (s .pending) x xs e q) (collect-guard b (take 24 (x ∷ xs))))
+      checked-cases (Careful weak) _ _ (refused-careful weak) (λ t. programming-careful _ _ false r (moves-program (s .index) b (s .pending) x xs e q) (collect-guard b (take 24 (x ∷ xs))))
 
   format-careful : (n : ℕ) → s .pending ≡ format n → Careful weak (formatStep v s n)
   unfolding formatStep
   format-careful n e =
       by-cases (ltb n (s .head .blocks))
       (λ l. rw l (unfold Careful in erase-guard weak s n (format (suc n)) G (λ k q c h. below k (format-same (suc n) k q) c h)))
-      (λ l. rw l (unfold programming in checked-cases (Careful weak) Step.refused _ _ (refused-careful weak) (λ t. unfold Careful in (zero-strong l, base-guard l))))
+      (λ l. rw l (unfold programming in checked-cases (Careful weak) _ _ (refused-careful weak) (λ t. unfold Careful in (zero-strong l, base-guard l))))
     where
       below : (k : ℕ) → suc n ≡ k → (c : ℕ) → c < k → (c ≡ n) ⊎ (weak c ≡ false)
       below k q c h = go (ℕ-discrete c n)
@@ -252,50 +254,52 @@ module _ (weak : Weak) (m : List ℕ) (s : Held) (size : sizeOk (length m) ≡ t
 pub step-careful : (weak : Weak) (m : List ℕ) (s : Held) (bs : List ℕ) → Guard weak s → Careful weak (stepOf (length m) (views m) s bs)
 unfolding stepOf
 step-careful weak m s bs G =
-    checked-cases (Careful weak) Step.refused (need 1 (sizeOk (length m)) ∷ need 7 (fitWith (views m) s bs) ∷ need 9 (not (isIdle (s .pending))) ∷ [])
+    checked-cases (Careful weak) (need 1 (sizeOk (length m)) ∷ need 7 (fitWith (views m) s bs) ∷ need 9 (not (isIdle (s .pending))) ∷ [])
     (erasedFirst (views m) s (due (views m) s (bufferedIn bs) (s .pending))) (refused-careful weak)
     (λ t. first-careful weak m s (unfold tests in every-at 0 _ t) (fits (views m) s (state-fit (views m) s bs (unfold tests in every-at 1 _ t))) G (bufferedIn bs))
 
 -- ---- any event
 
-stepped-kept : (weak : Weak) (m : List ℕ) (s : Held) (bs : List ℕ) (st : Step) → Guard weak s → Careful weak st → Kept (afterStep st false weak) (stepped (world m (some s) bs) st .after .state)
+stepped-kept : (weak : Weak) (m : List ℕ) (s : Held) (bs : List ℕ) (st : Answer Step) → Guard weak s → Careful weak st → Kept (afterStep st false weak) (stepped (world m (some s) bs) st .after .state)
 unfolding stepped afterStep Careful Kept
-stepped-kept weak m s bs (Step.refused n) G C = G
-stepped-kept weak m s bs (Step.program p pg s′ f) G C = C .1
-stepped-kept weak m s bs (Step.erase b s′ f) G C = C
+stepped-kept weak m s bs (refused n) G C = G
+stepped-kept weak m s bs (gives (Step.program p pg s′ f)) G C = C .1
+stepped-kept weak m s bs (gives (Step.erase b s′ f)) G C = C
 
-cut-kept : (weak : Weak) (w : World) (left : List ℕ) (st : Step) → Kept weak (cutShort w left st .after .state)
+cut-kept : (weak : Weak) (w : World) (left : List ℕ) (st : Answer Step) → Kept weak (cutShort w left st .after .state)
 unfolding cutShort Kept
-cut-kept weak w left (Step.refused n) = tt
-cut-kept weak w left (Step.program p pg s f) = tt
-cut-kept weak w left (Step.erase b s f) = tt
+cut-kept weak w left (refused n) = tt
+cut-kept weak w left (gives (Step.program p pg s f)) = tt
+cut-kept weak w left (gives (Step.erase b s f)) = tt
 
 call-kept : (weak : Weak) (m : List ℕ) (s : Held) (bs : List ℕ) (t : Told) (cs : List Need) (pend : Pending) → Guard weak s → ((n : ℕ) → pend ≡ format n → ⊥)
-    → Kept weak (called (world m (some s) bs) t (checked Call.refused cs (Call.begun (starting s pend))) .after .state)
+    → Kept weak (called (world m (some s) bs) t (checked cs (starting s pend)) .after .state)
 call-kept weak m s bs t cs pend G n =
-    checked-cases (λ (c : Call). Kept weak (called (world m (some s) bs) t c .after .state)) Call.refused cs (Call.begun (starting s pend))
+    checked-cases (λ (c : Answer Held). Kept weak (called (world m (some s) bs) t c .after .state)) cs (gives (starting s pend))
     (λ k. unfold called Kept in G) (λ e. unfold called Kept in record { long = G .long; marks = G .marks; heads = G .heads; formats = λ k q. absurd (n k q) })
 
 buffer-kept : (weak : Weak) (m : List ℕ) (s : Held) (bs : List ℕ) (t : Told) (cs : List Need) (b : List ℕ) → Guard weak s
-    → Kept weak (filled (world m (some s) bs) t (checked Buffering.refused cs (Buffering.buffered b)) .after .state)
+    → Kept weak (filled (world m (some s) bs) t (checked cs b) .after .state)
 buffer-kept weak m s bs t cs b G =
-    checked-cases (λ (c : Buffering). Kept weak (filled (world m (some s) bs) t c .after .state)) Buffering.refused cs (Buffering.buffered b)
+    checked-cases (λ (c : Answer (List ℕ)). Kept weak (filled (world m (some s) bs) t c .after .state)) cs (gives b)
     (λ k. unfold filled Kept in G) (λ e. unfold filled Kept in G)
 
 recovered-guard : (weak : Weak) (v : List View) → Guard weak (recoveredState v)
 unfolding recoveredState
-recovered-guard weak v = record { long = none-length (length v / 16); marks = λ b h. true-false h (none-was (length v / 16) b); heads = λ h. absurd (omega arith); formats = λ n e. absurd (idle-format n e) }
+recovered-guard weak v =
+    record { long = none-length (length v / 16); marks = λ b h. true-false h (none-was (length v / 16) b); heads = λ h. absurd (omega arith); formats = λ n e. absurd (idle-format n e) }
 
 recover-kept : (weak : Weak) (m : List ℕ) (s : Option Held) (bs : List ℕ) → Kept weak s → Kept weak (recovered (world m s bs) (Recovery.recover (length m) (views m)) .after .state)
 unfolding Recovery.recover
 recover-kept weak m s bs K =
-    checked-cases (λ (r : Recovery). Kept weak (recovered (world m s bs) r .after .state)) Recovery.refused _ _
+    checked-cases (λ (r : Answer Recovery). Kept weak (recovered (world m s bs) r .after .state)) _ _
     (λ n. unfold recovered in K) (λ e. unfold recovered Kept in recovered-guard weak (views m))
 
 pub event-kept : (weak : Weak) (m : List ℕ) (s : Option Held) (bs : List ℕ) (e : Event (world m s bs)) → Kept weak s → Kept (weakAfter (world m s bs) e weak) (happen (world m s bs) e .after .state)
 unfolding happen weakAfter withState stepDue
 event-kept weak m none bs (Event.append ks ws a b) K = K
-event-kept weak m (some s) bs (Event.append ks ws a b) K = unfold appendOf in call-kept weak m s bs (beganAppend (zip ks ws)) _ (append (zip ks ws) []) (unfold Kept in K) (append-format (zip ks ws) [])
+event-kept weak m (some s) bs (Event.append ks ws a b) K =
+    unfold appendOf in call-kept weak m s bs (beganAppend (zip ks ws)) _ (append (zip ks ws) []) (unfold Kept in K) (append-format (zip ks ws) [])
 event-kept weak m none bs Event.commit K = K
 event-kept weak m (some s) bs Event.commit K = unfold commitOf in call-kept weak m s bs beganCommit _ (commit 0) (unfold Kept in K) (commit-format 0)
 event-kept weak m none bs (Event.collect b) K = K
@@ -316,14 +320,19 @@ event-kept weak m s bs (Event.cutInside left c) K = cut-kept _ (world m s bs) le
 formatting-guard : (weak : Weak) (blocks : ℕ) → Guard weak (formatting blocks)
 unfolding formatting
 formatting-guard weak blocks =
-    record { long = none-length blocks; marks = λ b h. true-false h (none-was blocks b); heads = λ h. absurd (omega arith); formats = λ n e b h. let z : 0 ≡ n = format-same 0 n e in absurd (omega arith) }
+    record {
+      long = none-length blocks;
+      marks = λ b h. true-false h (none-was blocks b);
+      heads = λ h. absurd (omega arith);
+      formats = λ n e b h. let z : 0 ≡ n = format-same 0 n e in absurd (omega arith);
+    }
 
-pub begun-guard : (weak : Weak) (n : ℕ) (s : Held) → formatOf n ≡ Call.begun s → Guard weak s
-unfolding formatOf checked
+pub begun-guard : (weak : Weak) (n : ℕ) (s : Held) → formatOf n ≡ gives s → Guard weak s
+unfolding formatOf under
 begun-guard weak n s e =
     by-cases (sizeOk n)
-    (λ t. let f : Call.begun (formatting (n / 4096)) ≡ Call.begun s = rw t at e in let q : formatting (n / 4096) ≡ s = cc in rw q at (formatting-guard weak (n / 4096)))
-    (λ t. let f : Call.refused 1 ≡ Call.begun s = rw t at e in let z : _≡_ {A = ℕ} 0 1 = cc in absurd (omega arith))
+    (λ t. let f : gives (formatting (n / 4096)) ≡ gives s = rw t at e in let q : formatting (n / 4096) ≡ s = cc in rw q at (formatting-guard weak (n / 4096)))
+    (λ t. let f : refused 1 ≡ gives s = rw t at e in let z : _≡_ {A = ℕ} 0 1 = cc in absurd (omega arith))
 
 format-kept : (weak : Weak) (w : World) (F : Formatting w) → Kept (weakInFormat weak w F) (w .state)
 unfolding weakInFormat
@@ -335,12 +344,12 @@ unfolding weakIn
 list-kept weak w h (Reached.start v F e) = event-kept (weakInFormat weak v F) (v .medium) (v .state) (v .buffer) Event.step (format-kept weak v F)
 list-kept weak w h (Reached.next v g e R) = event-kept (weakIn weak v g R) (v .medium) (v .state) (v .buffer) e (list-kept weak v g R)
 
-programs-strong : (weak : Weak) (m : List ℕ) (s : Option Held) (bs : List ℕ) → Kept weak s → (p : ℕ) (pg : Page) (t : Held) (f : Bool) → stepDue (world m s bs) ≡ Step.program p pg t f → weak (p / 16) ≡ false
+programs-strong : (weak : Weak) (m : List ℕ) (s : Option Held) (bs : List ℕ) → Kept weak s → (p : ℕ) (pg : Page) (t : Held) (f : Bool) → stepDue (world m s bs) ≡ gives (Step.program p pg t f) → weak (p / 16) ≡ false
 unfolding stepDue withState
 programs-strong weak m none bs K p pg t f e = let z : _≡_ {A = ℕ} 0 1 = cc in absurd (omega arith)
 programs-strong weak m (some s) bs K p pg t f e = go (stepOf (length m) (views m) s bs) (step-careful weak m s bs (unfold Kept in K)) e
   where
-    go : (st : Step) → Careful weak st → st ≡ Step.program p pg t f → weak (p / 16) ≡ false
+    go : (st : Answer Step) → Careful weak st → st ≡ gives (Step.program p pg t f) → weak (p / 16) ≡ false
     go st C q = let D : (weak (p / 16) ≡ false) × Guard weak t = unfold Careful in (rw q at C) in D .0
 
 pub never-weak : NeverWeak

@@ -11,11 +11,12 @@ use lib.Seq.{getD-append-seam}
 use borrow.Author.Tests.{ltb-true, leb-true, eqb-true, eqb-false, eq-eqb, ne-eqb, lt-ltb, le-ltb, le-leb}
 use Rattle.lists.specs.declared.Cell.{Cell}
 use Rattle.lists.specs.Lists.{table, isSome, valueOr, Bytes}
-use Rattle.lists.specs.Needs.{need, refusalOf, checked}
+use Rattle.lists.specs.Needs.{under, checked, answerOr, refusalOf}
 use Rattle.lists.specs.Cells.{cell, Entry, Place}
 use Rattle.lists.proofs.Laws.{by-cases, and-l, and-r, true-false, below-tail, get-table, length-table}
 use Rattle.codec.specs.Codec.{le, bytesOf, part}
 use Rattle.codec.proofs.Put.{get-part, length-part, part-same, bytes-part}
+use Rattle.codec.proofs.Numbers.{bytes-le}
 use Rattle.page.specs.Pages.{Page, View, clean, spoilt, whole, changesOf}
 use Rattle.page.specs.Layout.{used, entryAt, decode, wholeBytes, viewOf}
 use Rattle.page.proofs.Berger.{whole-view}
@@ -27,7 +28,7 @@ use Rattle.index.proofs.Rising.{assign-rising}
 use Rattle.nodes.specs.Nodes.{setsValves, entryIn, nodeIn, wordFor, wordAt, words}
 use Rattle.nodes.proofs.Alive.{rising-words}
 use Rattle.state.specs.State.{Held, fitWith}
-use Rattle.readings.specs.Readings.{placeOf, names, lastNaming, setsAt, soughtIn, sought, wordPart, wordRefusal}
+use Rattle.readings.specs.Readings.{placeOf, names, lastNaming, setsAt, soughtIn, sought, eightBytes, wordPart, wordRefusal}
 use Rattle.valve_log.specs.History.{History, assignGroups}
 use Rattle.valve_log.specs.Reached.{world}
 use Rattle.valve_log.specs.Word.{Holds, Tells, WordTold}
@@ -135,16 +136,6 @@ says v (e ∷ es) done l r = go (lastNaming v (suc (length done)) es) (ih (says 
 
 -- ---- the eight bytes in the medium
 
--- bytes are those of the number that they stand for
-bytes-le : (xs : List ℕ) → Bytes xs → bytesOf (length xs) (le xs) ≡ xs
-unfolding bytesOf le
-bytes-le [] b = refl
-bytes-le (x ∷ xs) b =
-    let h : x < 256 = b .each 0 in
-    let p : (x + 256 * le xs) % 256 ≡ x = omega arith in
-    let q : (x + 256 * le xs) / 256 ≡ le xs = omega arith in
-    rw (p, q, bytes-le xs (below-tail b))
-
 part-part : (s : List ℕ) (a n k c : ℕ) → k + c ≤ n → a + n ≤ length s → part k c (part a n s) ≡ part (a + k) c s
 part-part s a n k c h l =
     part-same k (a + k) c 0 (part a n s) s (omega (arith, length-part a n s l)) (omega arith)
@@ -251,12 +242,13 @@ module _ (m : List ℕ) (s : Held) (bs : List ℕ) (h : History) (U : Upheld (wo
   stored = rw (L .holds) (stored-holding (h .buffered) (omega (arith, L .fits-in .few)))
 
   -- with 1 and 7 met
-  number-is : (o : Option ℕ) → lastNaming valve 0 es ≡ o → wordRefusal m v s bs valve ≡ refusalOf (soughtIn m v s bs valve o .needs)
-  unfolding wordRefusal refusalOf checked sought
+  number-is : (o : Option ℕ) → lastNaming valve 0 es ≡ o → wordRefusal m v s bs valve ≡ refusalOf (soughtIn v s bs valve o .needs)
+  unfolding wordRefusal refusalOf answerOr under sought
   number-is o e = rw (U .size, fits-all, lent-groups L, e)
 
-  part-is : (o : Option ℕ) → lastNaming valve 0 es ≡ o → wordPart m v s bs valve ≡ checked (λ n. []) (soughtIn m v s bs valve o .needs) (soughtIn m v s bs valve o .part)
-  unfolding wordPart checked sought
+  part-is : (o : Option ℕ) → lastNaming valve 0 es ≡ o
+      → wordPart m v s bs valve ≡ answerOr (λ n. []) (checked (soughtIn v s bs valve o .needs) (eightBytes m bs (soughtIn v s bs valve o)))
+  unfolding wordPart answerOr under sought
   part-is o e = rw (U .size, fits-all, lent-groups L, e)
 
   record Has (part : List ℕ) : Type 0 where
@@ -264,13 +256,13 @@ module _ (m : List ℕ) (s : Held) (bs : List ℕ) (h : History) (U : Upheld (wo
     set : lookup valve (assignAll (h .settings) es) ≡ some word
     bytes : part ≡ bytesOf 8 word
 
-  abbrev Answer : ℕ → List ℕ → Type 0
-  Answer n part = (n ≡ 0 → Has part) × ((n ≡ 0 → ⊥) → (n ≡ 18) × (lookup valve (assignAll (h .settings) es) ≡ none))
+  abbrev Said : ℕ → List ℕ → Type 0
+  Said n part = (n ≡ 0 → Has part) × ((n ≡ 0 → ⊥) → (n ≡ 18) × (lookup valve (assignAll (h .settings) es) ≡ none))
 
   -- in the buffer
   in-buffer : (j : ℕ) → lookup valve (assignAll (h .settings) es) ≡ told (getD es j (cell 0 0)) → j < length es
-      → Answer (refusalOf (soughtIn m v s bs valve (some j) .needs)) (checked (λ n. []) (soughtIn m v s bs valve (some j) .needs) (soughtIn m v s bs valve (some j) .part))
-  unfolding soughtIn refusalOf checked setsAt
+      → Said (refusalOf (soughtIn v s bs valve (some j) .needs)) (answerOr (λ n. []) (checked (soughtIn v s bs valve (some j) .needs) (eightBytes m bs (soughtIn v s bs valve (some j)))))
+  unfolding soughtIn refusalOf answerOr under setsAt
   in-buffer j e k =
       rw (lent-groups L) (by-cases (ltb (getD es j (cell 0 0) .key) 32768)
       (λ q. rw q ((λ z. record { word = getD es j (cell 0 0) .val; set = e ∙ rw q; bytes = stored .word j k }), λ z. absurd (z refl)))
@@ -278,7 +270,9 @@ module _ (m : List ℕ) (s : Held) (bs : List ℕ) (h : History) (U : Upheld (wo
 
   -- in the medium
   index-is : lookup valve (h .settings) ≡ worded v valve (lookup valve (s .index))
-  index-is = ap (lookup valve) (sym (U .coupled .medium .shows)) ∙ lookup-words v valve (U .coupled .idx) ∙ ap (λ (l : List Place). worded v valve (lookup valve l)) (sym (alive-of (U .coupled .memory) .indices))
+  index-is =
+      ap (lookup valve) (sym (U .coupled .medium .shows)) ∙ lookup-words v valve (U .coupled .idx)
+      ∙ ap (λ (l : List Place). worded v valve (lookup valve l)) (sym (alive-of (U .coupled .memory) .indices))
 
   there : (o : Option ℕ) → isSome o ≡ true → o ≡ some (valueOr 0 o)
   unfolding isSome valueOr
@@ -306,13 +300,12 @@ module _ (m : List ℕ) (s : Held) (bs : List ℕ) (h : History) (U : Upheld (wo
   medium-word a q = word-bytes m (placeOf s valve) (valueOr 0 (wordAt v (placeOf s valve))) (U .guarded .bytes) (there (wordAt v (placeOf s valve)) (word-there a q))
 
   in-medium : lookup valve (assignAll (h .settings) es) ≡ lookup valve (h .settings)
-      → Answer (refusalOf (soughtIn m v s bs valve none .needs)) (checked (λ n. []) (soughtIn m v s bs valve none .needs) (soughtIn m v s bs valve none .part))
-  unfolding soughtIn refusalOf checked
+      → Said (refusalOf (soughtIn v s bs valve none .needs)) (answerOr (λ n. []) (checked (soughtIn v s bs valve none .needs) (eightBytes m bs (soughtIn v s bs valve none))))
+  unfolding soughtIn refusalOf answerOr under
   in-medium e = go (lookup valve (s .index)) refl
     where
       go : (o : Option ℕ) → lookup valve (s .index) ≡ o
-          → Answer (checked (λ n. n) (need 18 (isSome (lookup valve (s .index))) ∷ need 6 (isSome (wordAt v (placeOf s valve))) ∷ []) 0)
-          (checked (λ n. []) (need 18 (isSome (lookup valve (s .index))) ∷ need 6 (isSome (wordAt v (placeOf s valve))) ∷ []) (part (256 * (placeOf s valve .val / 24) + (64 + 8 * (placeOf s valve .val % 24))) 8 m))
+          → Said (refusalOf (soughtIn v s bs valve none .needs)) (answerOr (λ n. []) (checked (soughtIn v s bs valve none .needs) (eightBytes m bs (soughtIn v s bs valve none))))
       go none q =
           let f : isSome (lookup valve (s .index)) ≡ false = rw q (unfold isSome in refl) in
           rw f ((λ z. absurd (omega arith)), λ z. (refl, e ∙ settings-none q))

@@ -5,6 +5,7 @@ use mathlib.Core.Option.{some}
 use mathlib.Core.List.{List}
 use Prim.Native.Nat.{ℕ}
 use Rattle.lists.specs.Lists.{Bytes}
+use Rattle.lists.specs.Needs.{gives}
 use Rattle.codec.specs.Codec.{bytesOf, putAt}
 use Rattle.page.specs.Pages.{Page, View}
 use Rattle.page.specs.Layout.{withCheck, encode}
@@ -23,5 +24,5 @@ HoldsBuffered = (w : World) (h : History) (s : Held) → Reached w h → w .stat
 unfoldable pub ProgramsAsLent : Type 0
 ProgramsAsLent =
     (n : ℕ) (v : List View) (s : Held) (b : List ℕ) (p : ℕ) (pg : Page) (t : Held) (finished : Bool)
-    → Bytes b → s .pending ≡ flush → stepOf n v s b ≡ Step.program p pg t finished
+    → Bytes b → s .pending ≡ flush → stepOf n v s b ≡ gives (Step.program p pg t finished)
     → encode pg ≡ withCheck (putAt b 8 (bytesOf 8 (s .head .serial)))

@@ -7,9 +7,10 @@ use mathlib.Core.List.{List}
 use Prim.Native.Nat.{ℕ, zero, suc, _/_, _≤_, _<_}
 use lib.ListN.{length}
 use Rattle.lists.specs.Lists.{Bytes}
+use Rattle.lists.specs.Needs.{refused, gives}
 use Rattle.blocks.specs.Blocks.{sizeOk}
 use Rattle.state.specs.State.{Held}
-use Rattle.calls.specs.Calls.{Call, formatOf}
+use Rattle.calls.specs.Calls.{formatOf}
 use Rattle.step.specs.Step.{Step}
 use Rattle.valve_log.specs.History.{start as noHistory}
 use Rattle.valve_log.specs.Reached.{World, world, fresh, lentAnew, stepDue, Event, happen, finishes, Reached}
@@ -23,8 +24,8 @@ stepsOn (suc n) w = happen (stepsOn n w) Event.step .after
 -- that it leaves is one that point 3 speaks of, with a medium as long as m. The steps are lent an empty buffer.
 pub record Finished (m : List ℕ) : Type 0 where
   pub state : Held
-  pub begun : formatOf (length m) ≡ Call.begun state
-  pub accepted : (n k : ℕ) → n ≤ length m / 4096 → stepDue (stepsOn n (world m (some state) fresh)) ≡ Step.refused k → ⊥
+  pub begun : formatOf (length m) ≡ gives state
+  pub accepted : (n k : ℕ) → n ≤ length m / 4096 → stepDue (stepsOn n (world m (some state) fresh)) ≡ refused k → ⊥
   pub before : (n : ℕ) → n < length m / 4096 → finishes (stepDue (stepsOn n (world m (some state) fresh))) ≡ false
   pub last : finishes (stepDue (stepsOn (length m / 4096) (world m (some state) fresh))) ≡ true
   pub reached : Reached (lentAnew (stepsOn (suc (length m / 4096)) (world m (some state) fresh))) noHistory

@@ -6,13 +6,13 @@ use Prim.Native.Nat.{ℕ}
 use lib.ListN.{length}
 use lib.Dec.{leb, ltb, eqb}
 use Rattle.lists.specs.Lists.{all, every}
-use Rattle.lists.specs.Needs.{Need, need, checked}
+use Rattle.lists.specs.Needs.{Answer, refused, Need, need, under}
 use Rattle.lists.specs.Cells.{Entry}
 use Rattle.page.specs.Pages.{Page, View, whole}
 use Rattle.page.specs.Rules.{serialOk}
 use Rattle.flash.specs.Medium.{views, seen}
 use Rattle.blocks.specs.Blocks.{sizeOk}
-use Rattle.recovery.specs.Recovery.{Placed, wholes, Recovery, refused}
+use Rattle.recovery.specs.Recovery.{Placed, wholes, Recovery}
 
 -- "flags: 1 begins a group, 2 ends it, 3 both, 0 neither"; "Kind 3 always has flags 3". There are kinds 1 to 3.
 unfoldable pub olderCarry : ℕ → ℕ → Bool
@@ -41,11 +41,11 @@ unfoldable pub olderAll : List Placed → Bool
 olderAll ws = all (λ x. olderLawful (x .page)) ws
 
 -- recovery by these rules, with the conditions that come after 1 and 2, and what it gives where all hold
-unfoldable pub olderRecover : List Need → Recovery → ℕ → List View → Recovery
-olderRecover later answer n v = checked refused (need 1 (sizeOk n) ∷ need 2 (olderAll (wholes 0 v)) ∷ later) answer
+unfoldable pub olderRecover : List Need → Answer Recovery → ℕ → List View → Answer Recovery
+olderRecover later answer n v = under (need 1 (sizeOk n) ∷ need 2 (olderAll (wholes 0 v)) ∷ later) answer
 
 -- whatever these are, it answers 2 to a medium of allowed length with a whole page of kind 4
 unfoldable pub OlderAnswers : Type 0
 OlderAnswers =
-    (later : List Need) (answer : Recovery) (m : List ℕ) (p : ℕ) (pg : Page)
+    (later : List Need) (answer : Answer Recovery) (m : List ℕ) (p : ℕ) (pg : Page)
     → sizeOk (length m) ≡ true → seen (views m) p ≡ whole pg → pg .kind ≡ 4 → olderRecover later answer (length m) (views m) ≡ refused 2

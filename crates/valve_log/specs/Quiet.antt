@@ -3,9 +3,8 @@ use mathlib.Core.Path.{_≡_}
 use mathlib.Core.Option.{some}
 use mathlib.Core.List.{List}
 use Prim.Native.Nat.{ℕ}
+use Rattle.lists.specs.Needs.{refused}
 use Rattle.state.specs.State.{Held, collect}
-use Rattle.recovery.specs.Recovery.{Recovery}
-use Rattle.calls.specs.Calls.{Call, Buffering}
 use Rattle.step.specs.Step.{Step}
 use Rattle.valve_log.specs.History.{History, Told, unchanged, tell}
 use Rattle.valve_log.specs.Reached.{World, Event, stepDue, CutOf, still, called, filled, stepped, recovered, happen, Reached, Shows}
@@ -13,10 +12,10 @@ use Rattle.valve_log.specs.Reached.{World, Event, stepDue, CutOf, still,
 -- a refused call and a reading leave the world as it is, and the history too
 pub record Unmoved : Type 0 where
   pub reading : (w : World) → happen w Event.read ≡ still w
-  pub call : (w : World) (t : Told) (n : ℕ) → called w t (Call.refused n) ≡ still w
-  pub buffer : (w : World) (t : Told) (n : ℕ) → filled w t (Buffering.refused n) ≡ still w
-  pub step : (w : World) (n : ℕ) → stepped w (Step.refused n) ≡ still w
-  pub recovery : (w : World) (n : ℕ) → recovered w (Recovery.refused n) ≡ still w
+  pub call : (w : World) (t : Told) (n : ℕ) → called w t (refused n) ≡ still w
+  pub buffer : (w : World) (t : Told) (n : ℕ) → filled w t (refused n) ≡ still w
+  pub step : (w : World) (n : ℕ) → stepped w (refused n) ≡ still w
+  pub recovery : (w : World) (n : ℕ) → recovered w (refused n) ≡ still w
   pub history : (h : History) → tell h unchanged ≡ h
 
 -- a step of a collection, and a cut inside one, leaves log and settings as they were

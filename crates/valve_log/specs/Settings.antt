@@ -24,8 +24,8 @@ pub record Stands (m : List ℕ) (s : Held) (h : History) : Type 0 where
 unfoldable pub StandsReached : Type 0
 StandsReached = (w : World) (h : History) (s : Held) → Reached w h → w .state ≡ some s → Stands (w .medium) s h
 
--- so the settings filed in two lists are the history's
+-- so the settings filed into lent lists are the history's
 unfoldable pub SettingsTold : Type 0
 SettingsTold =
-    (w : World) (h : History) (s : Held) (valves ws : List ℕ) → Reached w h → w .state ≡ some s
-    → readSettings (length (w .medium)) (views (w .medium)) s valves ws ≡ filedSettings valves ws (h .settings)
+    (w : World) (h : History) (s : Held) (lists : List (List ℕ)) → Reached w h → w .state ≡ some s
+    → readSettings (length (w .medium)) (views (w .medium)) s lists ≡ filedSettings lists (h .settings)

@@ -8,11 +8,12 @@ use Prim.Native.Nat.{ℕ}
 use lib.Dec.{eqb}
 use lib.ListN.{length}
 use Rattle.lists.specs.Lists.{every}
+use Rattle.lists.specs.Needs.{refused}
 use Rattle.flash.specs.Medium.{views}
 use Rattle.state.specs.State.{Held}
-use Rattle.recovery.specs.Recovery.{Recovery, recover as recoverOf}
-use Rattle.readings.specs.Readings.{Opening, openingOf, wordRefusal, Pick, pickOf, Survey, surveyOf, Supply, availableOf, Answer, readLog, readSettings}
-use Rattle.calls.specs.Calls.{Call, Buffering, appendOf, commitOf, collectOf, bufferOf, flushOf, formatOf}
+use Rattle.recovery.specs.Recovery.{recover as recoverOf}
+use Rattle.readings.specs.Readings.{openingOf, wordRefusal, pickOf, surveyOf, availableOf, readLog, readSettings}
+use Rattle.calls.specs.Calls.{appendOf, commitOf, collectOf, bufferOf, flushOf, formatOf}
 use Rattle.step.specs.Step.{Step, stepOf}
 use Rattle.valve_log.specs.History.{History}
 use Rattle.valve_log.specs.Reached.{World, Reached}
@@ -24,28 +25,28 @@ expected n = every (not (eqb n 1) ∷ not (eqb n 6) ∷ not (eqb n 7) ∷ not (e
 -- each call that takes a state, with any other arguments, where it refuses (a word has the number 0 where it does not); picker, survey and
 -- available pages never do
 pub record Answers (m : List ℕ) (s : Held) (b : List ℕ) : Type 0 where
-  pub append : (ks ws : List ℕ) (n : ℕ) → appendOf (length m) (views m) s b ks ws ≡ Call.refused n → expected n ≡ true
-  pub commit : (n : ℕ) → commitOf (length m) (views m) s b ≡ Call.refused n → expected n ≡ true
-  pub collect : (block n : ℕ) → collectOf (length m) (views m) s b block ≡ Call.refused n → expected n ≡ true
-  pub buffer : (ks ws : List ℕ) (n : ℕ) → bufferOf (length m) (views m) s b ks ws ≡ Buffering.refused n → expected n ≡ true
-  pub flush : (n : ℕ) → flushOf (length m) (views m) s b ≡ Call.refused n → expected n ≡ true
-  pub step : (n : ℕ) → stepOf (length m) (views m) s b ≡ Step.refused n → expected n ≡ true
-  pub opening : (valve n : ℕ) → openingOf (length m) (views m) s valve ≡ Opening.turnedBack n → expected n ≡ true
+  pub append : (ks ws : List ℕ) (n : ℕ) → appendOf (length m) (views m) s b ks ws ≡ refused n → expected n ≡ true
+  pub commit : (n : ℕ) → commitOf (length m) (views m) s b ≡ refused n → expected n ≡ true
+  pub collect : (block n : ℕ) → collectOf (length m) (views m) s b block ≡ refused n → expected n ≡ true
+  pub buffer : (ks ws : List ℕ) (n : ℕ) → bufferOf (length m) (views m) s b ks ws ≡ refused n → expected n ≡ true
+  pub flush : (n : ℕ) → flushOf (length m) (views m) s b ≡ refused n → expected n ≡ true
+  pub step : (n : ℕ) → stepOf (length m) (views m) s b ≡ refused n → expected n ≡ true
+  pub opening : (valve n : ℕ) → openingOf (length m) (views m) s valve ≡ refused n → expected n ≡ true
   pub word : (valve : ℕ) → expected (wordRefusal m (views m) s b valve) ≡ true
-  pub settings : (valves ws : List ℕ) (n : ℕ) → readSettings (length m) (views m) s valves ws .answer ≡ Answer.turnedBack n → expected n ≡ true
-  pub pick : (n : ℕ) → pickOf (length m) (views m) s ≡ Pick.turnedBack n → ⊥
-  pub survey : (n : ℕ) → surveyOf (length m) (views m) s ≡ Survey.turnedBack n → ⊥
-  pub available : (n : ℕ) → availableOf (length m) (views m) s ≡ Supply.turnedBack n → ⊥
+  pub settings : (lists : List (List ℕ)) (n : ℕ) → readSettings (length m) (views m) s lists ≡ refused n → expected n ≡ true
+  pub pick : (n : ℕ) → pickOf (length m) (views m) s ≡ refused n → ⊥
+  pub survey : (n : ℕ) → surveyOf (length m) (views m) s ≡ refused n → ⊥
+  pub available : (n : ℕ) → availableOf (length m) (views m) s ≡ refused n → ⊥
 
 unfoldable pub Steady : Type 0
 Steady = (w : World) (h : History) (s : Held) → Reached w h → w .state ≡ some s → Answers (w .medium) s (w .buffer)
 
--- The calls that take no state, also where a cut lost it: format and recovery never refuse, and the log, filed into any three lists, is refused
+-- The calls that take no state, also where a cut lost it: format and recovery never refuse, and the log, filed into any lists, is refused
 -- by 17 alone. A page of the medium refuses nothing anywhere.
 pub record AnswersWithoutState (m : List ℕ) : Type 0 where
-  pub format : (n : ℕ) → formatOf (length m) ≡ Call.refused n → ⊥
-  pub recovery : (n : ℕ) → recoverOf (length m) (views m) ≡ Recovery.refused n → ⊥
-  pub log : (ks ws ns : List ℕ) (n : ℕ) → readLog (length m) (views m) ks ws ns .answer ≡ Answer.turnedBack n → n ≡ 17
+  pub format : (n : ℕ) → formatOf (length m) ≡ refused n → ⊥
+  pub recovery : (n : ℕ) → recoverOf (length m) (views m) ≡ refused n → ⊥
+  pub log : (lists : List (List ℕ)) (n : ℕ) → readLog (length m) (views m) lists ≡ refused n → n ≡ 17
 
 unfoldable pub SteadyWithoutState : Type 0
 SteadyWithoutState = (w : World) (h : History) → Reached w h → AnswersWithoutState (w .medium)

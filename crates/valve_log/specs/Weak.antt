@@ -6,10 +6,10 @@ use mathlib.Core.Bool.{Bool, true, false, cond}
 use mathlib.Core.List.{List}
 use Prim.Native.Nat.{ℕ, _/_}
 use lib.Dec.{eqb}
+use Rattle.lists.specs.Needs.{Answer, refused, gives}
 use Rattle.page.specs.Pages.{Page}
-use Rattle.flash.specs.Medium.{views}
 use Rattle.state.specs.State.{Held}
-use Rattle.step.specs.Step.{Step, needsErase}
+use Rattle.step.specs.Step.{Step}
 use Rattle.valve_log.specs.History.{History}
 use Rattle.valve_log.specs.Reached.{World, stepDue, CutOf, Event, happen, Formatting, Reached}
 
@@ -22,10 +22,10 @@ unfoldable pub afterErase : ℕ → Bool → Weak → Weak
 afterErase b cut weak c = cond (eqb c b) cut (weak c)
 
 -- after a device step, cut or not: an erase counts, whichever operation it belongs to
-unfoldable pub afterStep : Step → Bool → Weak → Weak
-afterStep (Step.refused n) cut weak = weak
-afterStep (Step.program p pg s finished) cut weak = weak
-afterStep (Step.erase b s finished) cut weak = afterErase b cut weak
+unfoldable pub afterStep : Answer Step → Bool → Weak → Weak
+afterStep (refused n) cut weak = weak
+afterStep (gives (Step.program p pg s finished)) cut weak = weak
+afterStep (gives (Step.erase b s finished)) cut weak = afterErase b cut weak
 
 -- after an event
 unfoldable pub weakAfter : (w : World) → Event w → Weak → Weak
@@ -53,23 +53,23 @@ weakIn weak w h (Reached.next v g e R) = weakAfter v e (weakIn weak v g R)
 -- Where the step due programs a page, in formatting or after it, the page's block is not weak; whichever blocks were where formatting began.
 pub record NeverWeak : Type 0 where
   pub in-format : (weak : Weak) (w : World) (F : Formatting w) (p : ℕ) (pg : Page) (s : Held) (finished : Bool)
-      → stepDue w ≡ Step.program p pg s finished → weakInFormat weak w F (p / 16) ≡ false
+      → stepDue w ≡ gives (Step.program p pg s finished) → weakInFormat weak w F (p / 16) ≡ false
   pub in-list : (weak : Weak) (w : World) (h : History) (R : Reached w h) (p : ℕ) (pg : Page) (s : Held) (finished : Bool)
-      → stepDue w ≡ Step.program p pg s finished → weakIn weak w h R (p / 16) ≡ false
+      → stepDue w ≡ gives (Step.program p pg s finished) → weakIn weak w h R (p / 16) ≡ false
 
 -- What is followed is what the sheet speaks of: an erase that is cut leaves its block weak, one that is finished does not, whichever operation
 -- it belongs to, and nothing changes a block but an erase of its own.
 pub record Follows : Type 0 where
   pub cut-erase : (weak : Weak) (w : World) (left : List ℕ) (allowed : CutOf (w .medium) (stepDue w) left) (b : ℕ) (s : Held) (finished : Bool)
-      → stepDue w ≡ Step.erase b s finished → weakAfter w (Event.cutInside left allowed) weak b ≡ true
+      → stepDue w ≡ gives (Step.erase b s finished) → weakAfter w (Event.cutInside left allowed) weak b ≡ true
   pub finished-erase : (weak : Weak) (w : World) (b : ℕ) (s : Held) (finished : Bool)
-      → stepDue w ≡ Step.erase b s finished → weakAfter w Event.step weak b ≡ false
+      → stepDue w ≡ gives (Step.erase b s finished) → weakAfter w Event.step weak b ≡ false
   pub others : (weak : Weak) (w : World) (e : Event w) (c : ℕ)
-      → ((b : ℕ) (s : Held) (finished : Bool) → stepDue w ≡ Step.erase b s finished → c ≡ b → ⊥) → weakAfter w e weak c ≡ weak c
+      → ((b : ℕ) (s : Held) (finished : Bool) → stepDue w ≡ gives (Step.erase b s finished) → c ≡ b → ⊥) → weakAfter w e weak c ≡ weak c
 
--- "one erase step precedes its first page", and no more: once formatting is over, after an erase that does not finish its operation no other
--- is due before the page.
+-- "one erase step precedes its first page", and no more: once formatting is over, after an erase that does not finish its operation the step due
+-- is no erase.
 unfoldable pub ErasedOnce : Type 0
 ErasedOnce =
-    (w : World) (h : History) (b : ℕ) (s : Held) → Reached w h → stepDue w ≡ Step.erase b s false
-    → needsErase (views (happen w Event.step .after .medium)) s ≡ false
+    (w : World) (h : History) (b : ℕ) (s : Held) → Reached w h → stepDue w ≡ gives (Step.erase b s false)
+    → (c : ℕ) (t : Held) (finished : Bool) → stepDue (happen w Event.step .after) ≡ gives (Step.erase c t finished) → ⊥

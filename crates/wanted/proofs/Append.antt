@@ -7,35 +7,27 @@ use native.Mathlib.Omega.{arith}
 use lib.Dec.{eqb}
 use borrow.Author.Tests.{eq-eqb}
 use Rattle.lists.specs.Lists.{all}
-use Rattle.lists.specs.Needs.{Need, checked}
+use Rattle.lists.specs.Needs.{refused, Need, under, checked}
 use Rattle.lists.specs.Cells.{Entry, Place, keysOf, wordsOf}
-use Rattle.lists.proofs.Laws.{by-cases, true-false, all-head, all-tail}
+use Rattle.lists.proofs.Laws.{given-refused, same-refusal, by-cases, true-false, all-head, all-tail}
 use Rattle.index.specs.Index.{within, entriesAllowed}
 use Rattle.state.specs.State.{Held}
-use Rattle.calls.specs.Calls.{Call, zip, listsOk, appendNeeds, appendOf}
+use Rattle.calls.specs.Calls.{zip, listsOk, appendNeeds, appendOf}
 use Rattle.wanted.specs.Serves.{NeverRefused, Appendable}
 
 -- a condition with this number holds
 abbrev clear : ℕ → Need → Bool
 clear k c = not (eqb (c .number) k) || c .holds
 
-abbrev tag : Call → ℕ
-tag (Call.refused n) = 0
-tag (Call.begun s) = 1
-
-abbrev number : Call → ℕ
-number (Call.refused n) = n
-number (Call.begun s) = 0
-
 -- where every condition with a number holds, that number does not refuse
-never : (k : ℕ) (cs : List Need) (s : Held) → all (clear k) cs ≡ true → checked Call.refused cs (Call.begun s) ≡ Call.refused k → ⊥
-unfolding checked
-never k [] s h e = let z : _≡_ {A = ℕ} 1 0 = ap tag e in absurd (omega (arith, z))
+never : (k : ℕ) (cs : List Need) (s : Held) → all (clear k) cs ≡ true → checked cs s ≡ refused k → ⊥
+unfolding under
+never k [] s h e = given-refused s k e
 never k (c ∷ cs) s h e =
     by-cases (c .holds)
-    (λ b. never k cs s (all-tail (clear k) c cs h) (sym (ap (λ (t : Bool). cond t (checked Call.refused cs (Call.begun s)) (Call.refused (c .number))) b) ∙ e))
+    (λ b. never k cs s (all-tail (clear k) c cs h) (sym (ap (λ (t : Bool). cond t (checked cs s) (refused (c .number))) b) ∙ e))
     (λ b.
-    let same : c .number ≡ k = ap number (sym (ap (λ (t : Bool). cond t (checked Call.refused cs (Call.begun s)) (Call.refused (c .number))) b) ∙ e) in
+    let same : c .number ≡ k = same-refusal _ _ (sym (ap (λ (t : Bool). cond t (checked cs s) (refused (c .number))) b) ∙ e) in
     true-false (all-head (clear k) c cs h) (ap (λ (t : Bool). not t || c .holds) (eq-eqb _ _ same) ∙ b))
 
 pub appendable : (index : List Place) (es : List Entry) → listsOk (keysOf es) (wordsOf es) ≡ true → entriesAllowed (zip (keysOf es) (wordsOf es)) ≡ true

@@ -1,6 +1,7 @@
 -- What the notes of a list of records lead to is what the records do.
 use mathlib.Core.Path.{_≡_, refl, sym, ap, _∙_}
 use mathlib.Core.Bool.{Bool, true, false, cond, _&&_}
+use mathlib.Core.Option.{Option}
 use mathlib.Core.List.{List, [], _∷_}
 use Prim.Native.Nat.{ℕ, _≤_, _<_}
 use native.Mathlib.Omega.{arith}
@@ -9,7 +10,8 @@ use lib.Dec.{leb, ltb}
 use borrow.Author.Tests.{le-leb, lt-leb, leb-true, leb-false}
 use Rattle.lists.specs.declared.Cell.{Cell}
 use Rattle.lists.specs.Lists.{all, every}
-use Rattle.lists.specs.Needs.{Need, need, checked}
+use Rattle.lists.specs.Needs.{Answer, refused, under}
+use Rattle.lists.specs.Cells.{Entry}
 use Rattle.lists.proofs.Laws.{by-cases, checked-join}
 use Rattle.page.specs.Pages.{View}
 use Rattle.index.specs.Index.{rising}
@@ -20,7 +22,7 @@ use Rattle.records.specs.declared.Notes.{Notes}
 use Rattle.records.specs.Records.{wantedSettings, unnoted, notedAll}
 use Rattle.records.proofs.Meaning.{inRange, notes-rise, notes-over, notes-count, notes-cells, length-settings}
 use Rattle.wanted_group.specs.Group.{isValve}
-use Rattle.wanted.specs.Wanted.{Wanted, turnedBack, present, valvesOk, fewRecords, wantedFor, wantedOf}
+use Rattle.wanted.specs.Wanted.{present, valvesOk, fewRecords, wantedFor, wantedOf}
 use Rattle.wanted.specs.Noted.{notedSettings, Orderly, recordNeeds, afterRecords, wantedBy}
 
 and-last : (a b : Bool) → (a && b) ≡ (a && (b && true))
@@ -64,10 +66,10 @@ module _ (rs : List Record) where
   notes-orderly = record { so = λ r h. ap valvesOk (same-settings h) ∙ sym same-rises ∙ r }
 
   pub notes-wanted : (n : ℕ) (v : List View) (s : Held) → wantedBy n v s notes ≡ wantedOf n v s (wantedSettings rs)
-  unfolding wantedBy wantedOf checked afterRecords
+  unfolding wantedBy wantedOf under afterRecords
   notes-wanted n v s =
-      ap (checked turnedBack (stateNeeds n v s))
-      (ap (λ (t : Wanted). cond (notes .rises) t (turnedBack 19))
-      (where-true (leb (notes .count) 192) (turnedBack 20) (λ b. ap (afterRecords v (s .index)) (same-settings (leb-true (notes .count) 192 b))))
-      ∙ ap (λ (t : Bool). cond t (cond (leb (notes .count) 192) (afterRecords v (s .index) (wantedSettings rs)) (turnedBack 20)) (turnedBack 19)) same-rises
-      ∙ ap (λ (t : Bool). cond (valvesOk (wantedSettings rs)) (cond t (afterRecords v (s .index) (wantedSettings rs)) (turnedBack 20)) (turnedBack 19)) same-few)
+      ap (under (stateNeeds n v s))
+      (ap (λ (t : Answer (Option (List Entry))). cond (notes .rises) t (refused 19))
+      (where-true (leb (notes .count) 192) (refused 20) (λ b. ap (afterRecords v (s .index)) (same-settings (leb-true (notes .count) 192 b))))
+      ∙ ap (λ (t : Bool). cond t (cond (leb (notes .count) 192) (afterRecords v (s .index) (wantedSettings rs)) (refused 20)) (refused 19)) same-rises
+      ∙ ap (λ (t : Bool). cond (valvesOk (wantedSettings rs)) (cond t (afterRecords v (s .index) (wantedSettings rs)) (refused 20)) (refused 19)) same-few)

@@ -2,17 +2,18 @@
 -- most 96 entries leads there.
 use mathlib.Core.Path.{_≡_, refl, sym, ap, _∙_, subst}
 use mathlib.Core.Bool.{Bool, true, false, cond, not}
+use mathlib.Core.Option.{Option, none, some}
 use mathlib.Core.List.{List, [], _∷_}
 use Prim.Native.Nat.{ℕ, _≤_, _<_}
 use native.Mathlib.Omega.{arith}
 use lib.ListN.{length}
 use lib.Dec.{leb, ltb, eqb}
-use borrow.Author.Tests.{le-leb, eq-eqb, ne-eqb, leb-true, leb-false, not-true}
+use borrow.Author.Tests.{le-leb, eq-eqb, leb-true, leb-false, not-true}
 use Rattle.lists.specs.declared.Cell.{Cell}
 use Rattle.lists.specs.Lists.{all, every}
-use Rattle.lists.specs.Needs.{Need, need, checked}
+use Rattle.lists.specs.Needs.{Answer, refused, gives, answered, Need, need, under, checked}
 use Rattle.lists.specs.Cells.{Entry, Setting, keysOf, wordsOf}
-use Rattle.lists.proofs.Laws.{by-cases, true-false, and-l, and-r, and-both, all-head, all-tail, numbered, every-at, tests, checked-cases, checked-pass, checked-join, length-keys, length-words}
+use Rattle.lists.proofs.Laws.{by-cases, true-false, same-refusal, given-refused, answered-refused, and-l, and-r, and-both, all-head, all-tail, numbered, every-at, tests, checked-cases, checked-pass, checked-join, length-keys, length-words}
 use Rattle.page.specs.Pages.{View}
 use Rattle.flash.specs.Medium.{views}
 use Rattle.index.specs.Index.{rising, assignAll, within, entriesAllowed}
@@ -28,7 +29,7 @@ use Rattle.wanted_group.proofs.Leads.{group-leads}
 use Rattle.wanted_group.proofs.Fewest.{group-length, leads-length}
 use Rattle.wanted_group.proofs.Eleven.{zero-needed}
 use Rattle.wanted_group.proofs.Accepted.{group-within}
-use Rattle.wanted.specs.Wanted.{Wanted, turnedBack, none, group, present, valvesOk, fewRecords, wantedNeeds, wantedFor, wantedOf, Told, told}
+use Rattle.wanted.specs.Wanted.{present, valvesOk, fewRecords, wantedNeeds, wantedFor, wantedOf, Reply, reply}
 use Rattle.wanted.specs.Serves.{LeadsTo, Fewest, InOrder, Appendable, Far, Serves, Served, ZeroNeeded, answerIn, ServedByCall}
 use Rattle.wanted.proofs.Laws.{all-valves}
 use Rattle.wanted.proofs.Order.{group-ordered}
@@ -36,21 +37,21 @@ use Rattle.wanted.proofs.Append.{appendable}
 
 -- ---- the kinds of answers
 
-abbrev kind : Wanted → ℕ
-kind (turnedBack n) = 0
-kind none = 1
-kind (group es) = 2
+abbrev kind : Answer (Option (List Entry)) → ℕ
+kind (refused n) = 0
+kind (gives none) = 1
+kind (gives (some es)) = 2
 
-other : {P : Type 0} {a b : Wanted} → (kind a ≡ kind b → ⊥) → a ≡ b → P
+other : {P : Type 0} {a b : Answer (Option (List Entry))} → (kind a ≡ kind b → ⊥) → a ≡ b → P
 other n e = absurd (n (ap kind e))
 
-abbrev entries : Wanted → List Entry
-entries (turnedBack n) = []
-entries none = []
-entries (group es) = es
+abbrev entries : Answer (Option (List Entry)) → List Entry
+entries (gives (some es)) = es
+entries (gives none) = []
+entries (refused n) = []
 
 -- a refusal claims nothing
-serves-refused : (v : List View) (s : Held) (w : List Setting) (n : ℕ) → Serves v s w (turnedBack n)
+serves-refused : (v : List View) (s : Held) (w : List Setting) (n : ℕ) → Serves v s w (refused n)
 serves-refused v s w n =
     record {
       shortest = λ es e. other (λ z. absurd (omega (arith, z))) e;
@@ -149,7 +150,7 @@ module _ (v : List View) (s : Held) (w : List Setting) (f : fit v s ≡ true) (r
       ∙ within-same (s .index) (present v s) g g (sym (keys-words v (s .index))) refl
       ∙ fewest .most)
 
-  serves-group : entriesAllowed g ≡ true → differing (present v s) w ≤ 96 → Serves v s w (group g)
+  serves-group : entriesAllowed g ≡ true → differing (present v s) w ≤ 96 → Serves v s w (gives (some g))
   unfolding Far
   serves-group a h =
       let z = long in
@@ -159,10 +160,10 @@ module _ (v : List View) (s : Held) (w : List Setting) (f : fit v s ≡ true) (r
         appends = λ es e. subst (λ (t : List Entry). 1 ≤ length t → Appendable (s .index) t) (ap entries e) (accepted a h);
         none-far = λ e. other (λ y. absurd (omega (arith, y))) e;
         far-none = λ n far. let y = far g leads in absurd (omega (arith, y, z, h));
-        nothing-differs = λ n e. let y = same-least e in ap group (no-entries g (omega (arith, y, z)));
+        nothing-differs = λ n e. let y = same-least e in ap (λ (t : List Entry). gives (some t)) (no-entries g (omega (arith, y, z)));
       }
 
-  serves-none : 96 < differing (present v s) w → Serves v s w none
+  serves-none : 96 < differing (present v s) w → Serves v s w (gives none)
   unfolding Far
   serves-none h =
       record {
@@ -174,7 +175,7 @@ module _ (v : List View) (s : Held) (w : List Setting) (f : fit v s ≡ true) (r
         nothing-differs = λ n e. let y = same-least e in absurd (omega (arith, y, h));
       }
 
-  serves-accepted : entriesAllowed g ≡ true → Serves v s w (wantedFor (present v s) w)
+  serves-accepted : entriesAllowed g ≡ true → Serves v s w (gives (wantedFor (present v s) w))
   unfolding wantedFor
   serves-accepted a =
       by-cases (leb (differing (present v s) w) 96)
@@ -186,82 +187,68 @@ module _ (v : List View) (s : Held) (w : List Setting) (f : fit v s ≡ true) (r
 pub serves : Served
 unfolding Served wantedOf tests
 serves n v s w =
-    checked-cases (Serves v s w) turnedBack (wantedNeeds n v s w) (wantedFor (present v s) w) (serves-refused v s w)
+    checked-cases (Serves v s w) (wantedNeeds n v s w) (gives (wantedFor (present v s) w)) (serves-refused v s w)
     (λ h. serves-accepted v s w (every-at 1 _ h) (every-at 2 _ h) (every-at 3 _ h) (every-at 5 _ h))
 
 -- ---- 11
 
-abbrev numberIn : Wanted → ℕ
-numberIn (turnedBack n) = n
-numberIn none = 0
-numberIn (group es) = 0
-
 -- a refusal with a number that none of the first conditions has is past them all
-past : (k : ℕ) (cs : List Need) (a : Wanted) → all (λ c. not (eqb (c .number) k)) cs ≡ true → checked turnedBack cs a ≡ turnedBack k → every (tests cs) ≡ true
-unfolding checked tests every
+past : {A : Type 0} (k : ℕ) (cs : List Need) (a : Answer A) → all (λ c. not (eqb (c .number) k)) cs ≡ true → under cs a ≡ refused k → every (tests cs) ≡ true
+unfolding under tests every
 past k [] a h e = refl
-past k (c ∷ cs) a h e =
-    let on : (b : Bool) → c .holds ≡ b → cond b (checked turnedBack cs a) (turnedBack (c .number)) ≡ turnedBack k
-    = λ b q. sym (ap (λ (t : Bool). cond t (checked turnedBack cs a) (turnedBack (c .number))) q) ∙ e in
+past {A} k (c ∷ cs) a h e =
+    let on : (b : Bool) → c .holds ≡ b → cond b (under cs a) (refused (c .number)) ≡ refused k
+    = λ b q. sym (ap (λ (t : Bool). cond t (under cs a) (refused (c .number))) q) ∙ e in
     by-cases (c .holds)
     (λ b. and-both b (past k cs a (all-tail (λ c. not (eqb (c .number) k)) c cs h) (on true b)))
     (λ b.
-    true-false (eq-eqb (c .number) k (ap numberIn (on false b))) (not-true (eqb (c .number) k) (all-head (λ c. not (eqb (c .number) k)) c cs h)))
+    true-false (eq-eqb (c .number) k (same-refusal {A = A} (c .number) k (on false b))) (not-true (eqb (c .number) k) (all-head (λ c. not (eqb (c .number) k)) c cs h)))
 
--- 11 refuses an answer that is no refusal only where its condition does not hold
-eleven-fails : (p w : List Setting) (b : Bool) → checked turnedBack (need 11 b ∷ []) (wantedFor p w) ≡ turnedBack 11 → b ≡ false
-unfolding checked wantedFor
-eleven-fails p w false e = refl
-eleven-fails p w true e =
-    by-cases (leb (differing p w) 96)
-    (λ b. other (λ y. absurd (omega (arith, y))) (sym (ap (λ (t : Bool). cond t (group (groupFor p w)) none) b) ∙ e))
-    (λ b. other (λ y. absurd (omega (arith, y))) (sym (ap (λ (t : Bool). cond t (group (groupFor p w)) none) b) ∙ e))
+-- 11 refuses what is given only where its condition does not hold
+eleven-fails : {A : Type 0} (x : A) (b : Bool) → checked (need 11 b ∷ []) x ≡ refused 11 → b ≡ false
+unfolding under
+eleven-fails x false e = refl
+eleven-fails x true e = given-refused x 11 e
 
 pub zero-is-needed : ZeroNeeded
 unfolding ZeroNeeded wantedOf LeadsTo tests all
 zero-is-needed n v s w fs e h =
     let before = need 1 (sizeOk n) ∷ need 7 (fit v s) ∷ need 19 (valvesOk w) ∷ need 20 (fewRecords w) ∷ need 6 (sound v (s .index)) ∷ [] in
-    let on = sym (checked-join turnedBack before (need 11 (entriesAllowed (groupFor (present v s) w)) ∷ []) (wantedFor (present v s) w)) ∙ e in
+    let x = wantedFor (present v s) w in
+    let on = sym (checked-join before (need 11 (entriesAllowed (groupFor (present v s) w)) ∷ []) (gives x)) ∙ e in
     let met = past 11 before _ refl on in
     let f = every-at 1 _ met in
     let r = every-at 2 _ met in
     let few = every-at 3 _ met in
     zero-needed (present v s) w fs (present-rises v s w f r few) (wanted-rises v s w f r few) (wanted-valves v s w f r few) h
-    (eleven-fails (present v s) w (entriesAllowed (groupFor (present v s) w)) (sym (checked-pass turnedBack before _ met) ∙ on))
+    (eleven-fails x (entriesAllowed (groupFor (present v s) w)) (sym (checked-pass before _ met) ∙ on))
 
 -- ---- the call
 
 -- what an answer says stands for it again, but for a refusal numbered 0
-heard : Told → Wanted
-heard t = cond (eqb (t .number) 0) (cond (t .found) (group (t .entries)) none) (turnedBack (t .number))
+heard : Reply → Answer (Option (List Entry))
+heard t = answered (t .number) (cond (t .found) (some (t .entries)) none)
 
-heard-refused : (n : ℕ) → 1 ≤ n → heard (told (turnedBack n)) ≡ turnedBack n
-unfolding heard told
-heard-refused n h = rw (ne-eqb n 0 (λ e. absurd (omega (arith, h, e))))
-
-heard-cut : (t : Bool) (es : List Entry) → heard (told (cond t (group es) none)) ≡ cond t (group es) none
-unfolding heard told
-heard-cut true es = refl
-heard-cut false es = refl
+heard-given : (o : Option (List Entry)) → heard (reply (gives o)) ≡ gives o
+unfolding heard reply answered
+heard-given none = refl
+heard-given (some es) = refl
 
 -- no condition has number 0
-heard-checked : (cs : List Need) (a : Wanted) → numbered cs ≡ true → heard (told a) ≡ a → heard (told (checked turnedBack cs a)) ≡ checked turnedBack cs a
-unfolding checked numbered
-heard-checked [] a p e = e
-heard-checked (c ∷ cs) a p e =
+heard-checked : (cs : List Need) (o : Option (List Entry)) → numbered cs ≡ true → heard (reply (checked cs o)) ≡ checked cs o
+unfolding under numbered
+heard-checked [] o p = heard-given o
+heard-checked (c ∷ cs) o p =
     by-cases (c .holds)
-    (λ b. rw b (heard-checked cs a (and-r (leb 1 (c .number)) (numbered cs) p) e))
-    (λ b. rw b (heard-refused (c .number) (leb-true 1 (c .number) (and-l (leb 1 (c .number)) (numbered cs) p))))
-
-heard-wanted : (n : ℕ) (v : List View) (s : Held) (w : List Setting) → heard (told (wantedOf n v s w)) ≡ wantedOf n v s w
-unfolding wantedOf wantedFor numbered
-heard-wanted n v s w =
-    heard-checked (wantedNeeds n v s w) (wantedFor (present v s) w) refl (heard-cut (leb (differing (present v s) w) 96) (groupFor (present v s) w))
+    (λ b. rw b (heard-checked cs o (and-r (leb 1 (c .number)) (numbered cs) p)))
+    (λ b.
+    let low = leb-true 1 (c .number) (and-l (leb 1 (c .number)) (numbered cs) p) in
+    rw b (unfold heard reply in answered-refused (c .number) _ (λ e. absurd (omega arith))))
 
 -- whatever the call answers serves
 pub answers-serve : ServedByCall
-unfolding ServedByCall Served answerIn heard
+unfolding ServedByCall Served answerIn heard wantedOf numbered
 answers-serve m s records r e =
-    subst (Serves (views m) (meaning s) (wantedSettings records))
-    (sym (ap heard e ∙ heard-wanted (length m) (views m) (meaning s) (wantedSettings records)))
-    (serves (length m) (views m) (meaning s) (wantedSettings records))
+    let w = wantedSettings records in
+    subst (Serves (views m) (meaning s) w) (sym (ap heard e ∙ heard-checked (wantedNeeds (length m) (views m) (meaning s) w) (wantedFor (present (views m) (meaning s)) w) refl))
+    (serves (length m) (views m) (meaning s) w)

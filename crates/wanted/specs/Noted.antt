@@ -1,24 +1,25 @@
 -- The answer from the notes of a walk over the records, as the code has it.
 use mathlib.Core.Path.{_≡_}
 use mathlib.Core.Bool.{true}
+use mathlib.Core.Option.{Option}
 use mathlib.Core.List.{List, [], _∷_}
 use Prim.Native.Nat.{ℕ, _≤_}
 use lib.Dec.{leb}
-use Rattle.lists.specs.Needs.{Need, need, checked}
-use Rattle.lists.specs.Cells.{Place, Setting, pairs}
+use Rattle.lists.specs.Needs.{Answer, Need, need, under, checked}
+use Rattle.lists.specs.Cells.{Entry, Place, Setting, pairs}
 use Rattle.page.specs.Pages.{View}
 use Rattle.index.specs.Index.{entriesAllowed}
 use Rattle.nodes.specs.Nodes.{sound, words}
 use Rattle.state.specs.State.{Held, stateNeeds}
 use Rattle.records.specs.declared.Notes.{Notes}
 use Rattle.wanted_group.specs.Group.{groupFor}
-use Rattle.wanted.specs.Wanted.{Wanted, turnedBack, valvesOk, wantedFor}
+use Rattle.wanted.specs.Wanted.{valvesOk, wantedFor}
 
 -- the settings that notes hold
 abbrev pub notedSettings : Notes → List Setting
 notedSettings n = pairs (n .count) (n .keys) (n .vals)
 
--- the settings of notes that 19 and 20 do not refuse rise
+-- where neither 19 nor 20 refuses, the settings noted are those of valves that rise strictly, none above 32767
 pub record Orderly (n : Notes) : Type 0 where
   pub so : n .rises ≡ true → n .count ≤ 192 → valvesOk (notedSettings n) ≡ true
 
@@ -27,8 +28,8 @@ abbrev pub recordNeeds : Notes → List Need
 recordNeeds n = need 19 (n .rises) ∷ need 20 (leb (n .count) 192) ∷ []
 
 -- what follows 20, for the places of an index and the wanted settings: 6 and 11, then the answer
-unfoldable pub afterRecords : List View → List Place → List Setting → Wanted
-afterRecords v l w = checked turnedBack (need 6 (sound v l) ∷ need 11 (entriesAllowed (groupFor (words v l) w)) ∷ []) (wantedFor (words v l) w)
+unfoldable pub afterRecords : List View → List Place → List Setting → Answer (Option (List Entry))
+afterRecords v l w = checked (need 6 (sound v l) ∷ need 11 (entriesAllowed (groupFor (words v l) w)) ∷ []) (wantedFor (words v l) w)
 
-unfoldable pub wantedBy : ℕ → List View → Held → Notes → Wanted
-wantedBy n v s notes = checked turnedBack (stateNeeds n v s) (checked turnedBack (recordNeeds notes) (afterRecords v (s .index) (notedSettings notes)))
+unfoldable pub wantedBy : ℕ → List View → Held → Notes → Answer (Option (List Entry))
+wantedBy n v s notes = under (stateNeeds n v s) (under (recordNeeds notes) (afterRecords v (s .index) (notedSettings notes)))

@@ -2,23 +2,25 @@
 -- no group of 96 entries or fewer leads there.
 use mathlib.Core.Path.{_≡_}
 use mathlib.Core.Bool.{Bool, true, false, cond, not}
+use mathlib.Core.Option.{Option, none, some}
 use mathlib.Core.List.{List, [], _++_}
 use Prim.Native.Nat.{ℕ, _≤_, _<_}
 use lib.ListN.{length}
 use lib.Dec.{leb, eqb}
 use Rattle.lists.specs.Lists.{all}
+use Rattle.lists.specs.Needs.{Answer, refused, gives, answered}
 use Rattle.lists.specs.Cells.{Entry, Place, Setting, listed, keysOf, wordsOf}
 use Rattle.page.specs.Pages.{View}
 use Rattle.flash.specs.Medium.{views}
 use Rattle.index.specs.Index.{rising, assignAll, within}
 use Rattle.state.specs.declared.State.{State}
 use Rattle.state.specs.State.{Held, meaning}
-use Rattle.calls.specs.Calls.{Call, appendOf}
+use Rattle.calls.specs.Calls.{appendOf}
 use Rattle.records.specs.declared.Record.{Record}
 use Rattle.records.specs.Records.{wantedSettings}
 use Rattle.wanted_group.specs.Group.{isValve}
 use Rattle.wanted.specs.declared.WantedAnswer.{WantedAnswer}
-use Rattle.wanted.specs.Wanted.{Wanted, turnedBack, none, group, present, wantedOf, AnswersWanted}
+use Rattle.wanted.specs.Wanted.{present, wantedOf, AnswersWanted}
 
 -- entries that, in order, make the wanted settings w of the settings s
 unfoldable pub LeadsTo : List Setting → List Setting → List Entry → Type 0
@@ -49,7 +51,7 @@ pub record InOrder (es : List Entry) : Type 0 where
 -- all else of the state
 unfoldable pub NeverRefused : List Place → List Entry → ℕ → Type 0
 NeverRefused index es k =
-    (n : ℕ) (v : List View) (s : Held) (b : List ℕ) → s .index ≡ index → appendOf n v s b (keysOf es) (wordsOf es) ≡ Call.refused k → ⊥
+    (n : ℕ) (v : List View) (s : Held) (b : List ℕ) → s .index ≡ index → appendOf n v s b (keysOf es) (wordsOf es) ≡ refused k → ⊥
 
 pub record Appendable (index : List Place) (es : List Entry) : Type 0 where
   pub ten : NeverRefused index es 10
@@ -60,16 +62,20 @@ pub record Appendable (index : List Place) (es : List Entry) : Type 0 where
 unfoldable pub Far : List Setting → List Setting → Type 0
 Far s w = (fs : List Entry) → LeadsTo s w fs → 96 < length fs
 
+-- an answer that is no refusal
+abbrev pub NotRefused : Answer (Option (List Entry)) → Type 0
+NotRefused answer = (n : ℕ) → answer ≡ refused n → ⊥
+
 -- what holds of an answer, for the pages v, what the state holds and the wanted settings
-pub record Serves (v : List View) (s : Held) (w : List Setting) (answer : Wanted) : Type 0 where
-  pub shortest : (es : List Entry) → answer ≡ group es → Fewest (present v s) w es
-  pub ordered : (es : List Entry) → answer ≡ group es → InOrder es
-  pub appends : (es : List Entry) → answer ≡ group es → 1 ≤ length es → Appendable (s .index) es
+pub record Serves (v : List View) (s : Held) (w : List Setting) (answer : Answer (Option (List Entry))) : Type 0 where
+  pub shortest : (es : List Entry) → answer ≡ gives (some es) → Fewest (present v s) w es
+  pub ordered : (es : List Entry) → answer ≡ gives (some es) → InOrder es
+  pub appends : (es : List Entry) → answer ≡ gives (some es) → 1 ≤ length es → Appendable (s .index) es
   -- 'none' exactly if every list that leads there has more than 96 entries
-  pub none-far : answer ≡ none → Far (present v s) w
-  pub far-none : ((n : ℕ) → answer ≡ turnedBack n → ⊥) → Far (present v s) w → answer ≡ none
+  pub none-far : answer ≡ gives none → Far (present v s) w
+  pub far-none : NotRefused answer → Far (present v s) w → answer ≡ gives none
   -- "an empty group if none does"
-  pub nothing-differs : ((n : ℕ) → answer ≡ turnedBack n → ⊥) → present v s ≡ w → answer ≡ group []
+  pub nothing-differs : NotRefused answer → present v s ≡ w → answer ≡ gives (some [])
 
 -- ---- of which answers it is shown
 
@@ -81,13 +87,13 @@ Served = (n : ℕ) (v : List View) (s : Held) (w : List Setting) → Serves v s 
 unfoldable pub ZeroNeeded : Type 0
 ZeroNeeded =
     (n : ℕ) (v : List View) (s : Held) (w : List Setting) (fs : List Entry)
-    → wantedOf n v s w ≡ turnedBack 11
+    → wantedOf n v s w ≡ refused 11
     → LeadsTo (present v s) w fs
     → all (λ e. not (eqb (e .key) 0)) fs ≡ false
 
 -- the answer that the code's struct stands for
-unfoldable pub answerIn : WantedAnswer → Wanted
-answerIn r = cond (eqb (r .number) 0) (cond (r .found) (group (listed (r .group))) none) (turnedBack (r .number))
+unfoldable pub answerIn : WantedAnswer → Answer (Option (List Entry))
+answerIn r = answered (r .number) (cond (r .found) (some (listed (r .group))) none)
 
 -- of whatever the call answers, by its promise
 unfoldable pub ServedByCall : Type 0

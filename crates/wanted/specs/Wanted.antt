@@ -2,12 +2,13 @@
 -- wants the group that leads there." n is the medium's length in bytes, v its pages, s what the state holds, w the wanted settings.
 use mathlib.Core.Path.{_≡_}
 use mathlib.Core.Bool.{Bool, true, false, cond}
+use mathlib.Core.Option.{Option, none, some}
 use mathlib.Core.List.{List, [], _∷_}
 use Prim.Native.Nat.{ℕ}
 use lib.ListN.{length}
 use lib.Dec.{leb}
 use Rattle.lists.specs.Lists.{all, every}
-use Rattle.lists.specs.Needs.{Need, need, checked}
+use Rattle.lists.specs.Needs.{Answer, refused, gives, Need, need, checked}
 use Rattle.lists.specs.Cells.{Entry, Setting, listed}
 use Rattle.page.specs.Pages.{View}
 use Rattle.flash.specs.Medium.{views}
@@ -20,12 +21,6 @@ use Rattle.records.specs.declared.Record.{Record}
 use Rattle.records.specs.Records.{wantedSettings}
 use Rattle.wanted_group.specs.Group.{isValve, groupFor, differing}
 use Rattle.wanted.specs.declared.WantedAnswer.{WantedAnswer}
-
--- refused with a number, 'none', or the group
-pub data Wanted : Type 0 where
-  turnedBack : ℕ → Wanted
-  none : Wanted
-  group : List Entry → Wanted
 
 -- "the present settings": the valves of the lent state's index, each with the word at its address
 abbrev pub present : List View → Held → List Setting
@@ -53,30 +48,30 @@ wantedNeeds n v s w =
     ∷ []
 
 -- "The answer is 'none' exactly if more than 96 valves differ, and an empty group if none does."
-unfoldable pub wantedFor : List Setting → List Setting → Wanted
-wantedFor now w = cond (leb (differing now w) 96) (group (groupFor now w)) none
+unfoldable pub wantedFor : List Setting → List Setting → Option (List Entry)
+wantedFor now w = cond (leb (differing now w) 96) (some (groupFor now w)) none
 
-unfoldable pub wantedOf : ℕ → List View → Held → List Setting → Wanted
-wantedOf n v s w = checked turnedBack (wantedNeeds n v s w) (wantedFor (present v s) w)
+unfoldable pub wantedOf : ℕ → List View → Held → List Setting → Answer (Option (List Entry))
+wantedOf n v s w = checked (wantedNeeds n v s w) (wantedFor (present v s) w)
 
 -- ---- the call
 
 -- what an answer says: the refusal's number or 0, whether there is a group, and its entries. "A refusal gives its number alone": beside it, and
 -- beside 'none', there is no entry.
-pub record Told : Type 0 where
+pub record Reply : Type 0 where
   pub number : ℕ
   pub found : Bool
   pub entries : List Entry
 
-unfoldable pub told : Wanted → Told
-told (turnedBack n) = record { number = n; found = false; entries = [] }
-told none = record { number = 0; found = false; entries = [] }
-told (group es) = record { number = 0; found = true; entries = es }
+unfoldable pub reply : Answer (Option (List Entry)) → Reply
+reply (refused n) = record { number = n; found = false; entries = [] }
+reply (gives none) = record { number = 0; found = false; entries = [] }
+reply (gives (some es)) = record { number = 0; found = true; entries = es }
 
 -- what the code's struct says: the group's entries are those below its count; what its arrays hold past that is open and means nothing
-abbrev pub saidBy : WantedAnswer → Told
-saidBy r = record { number = r .number; found = r .found; entries = listed (r .group) }
+abbrev pub replyBy : WantedAnswer → Reply
+replyBy r = record { number = r .number; found = r .found; entries = listed (r .group) }
 
 -- what the call promises of a medium m, a state s and a lent list of records
 abbrev pub AnswersWanted : List ℕ → State → List Record → WantedAnswer → Type 0
-AnswersWanted m s records r = saidBy r ≡ told (wantedOf (length m) (views m) (meaning s) (wantedSettings records))
+AnswersWanted m s records r = replyBy r ≡ reply (wantedOf (length m) (views m) (meaning s) (wantedSettings records))

@@ -5,13 +5,13 @@ ghost use mathlib.Core.List.{[], _∷_};
 ghost use Prim.Native.Nat.{_≤_};
 ghost use lib.ListN.{length};
 ghost use Rattle.lists.specs.Lists.{all};
-ghost use Rattle.lists.specs.Needs.{refusalOf};
+ghost use Rattle.lists.specs.Needs.{refused, refusalOf};
 ghost use Rattle.lists.specs.Cells.{listed};
 ghost use Rattle.flash.specs.Medium.{views};
 ghost use Rattle.index.specs.Index.{rising};
 ghost use Rattle.state.specs.State.{meaning};
 ghost use Rattle.wanted_group.specs.Group.{isValve};
-ghost use Rattle.wanted.specs.Wanted.{turnedBack, told, saidBy, AnswersWanted};
+ghost use Rattle.wanted.specs.Wanted.{reply, replyBy, AnswersWanted};
 ghost use Rattle.wanted.specs.Noted.{recordNeeds, Orderly, afterRecords, wantedBy};
 use lists::Cells;
 use records::Notes;
@@ -29,7 +29,7 @@ pub struct WantedAnswer {
 
 // A refusal.
 fn refused(number: u8) -> WantedAnswer
-    ensures { λ r. ⌜ saidBy r ≡ told (turnedBack number) ⌝ }
+    ensures { λ r. ⌜ replyBy r ≡ reply (refused number) ⌝ }
 {
     let no_entries = index::empty();
     WantedAnswer {
@@ -55,7 +55,7 @@ fn record_refusal(n: Notes) -> u8
 // The group that leads from the settings of an index to the wanted ones, or 6, or 11.
 fn from_index(m: &[u8], index: Cells, w: Cells) -> WantedAnswer
     requires { ⌜ (index .count ≤ 192) × (rising (listed index) ≡ true) × (all isValve (listed index) ≡ true) × (w .count ≤ 192) × (rising (listed w) ≡ true) × (all isValve (listed w) ≡ true) ⌝ }
-    ensures { λ r. ⌜ saidBy r ≡ told (afterRecords (views (now (m .entry))) (listed index) (listed w)) ⌝ }
+    ensures { λ r. ⌜ replyBy r ≡ reply (afterRecords (views (now (m .entry))) (listed index) (listed w)) ⌝ }
 {
     let present = settings::present(m, index);
     if !present.sound {
@@ -77,7 +77,7 @@ fn from_index(m: &[u8], index: Cells, w: Cells) -> WantedAnswer
 // The answer, from what was noted of the records.
 fn answer(m: &[u8], s: State, n: Notes) -> WantedAnswer
     requires { ⌜ Orderly n ⌝ }
-    ensures { λ r. ⌜ saidBy r ≡ told (wantedBy (length (now (m .entry))) (views (now (m .entry))) (meaning s) n) ⌝ }
+    ensures { λ r. ⌜ replyBy r ≡ reply (wantedBy (length (now (m .entry))) (views (now (m .entry))) (meaning s) n) ⌝ }
 {
     let number = state::state_refusal(m, s);
     if number != 0 {

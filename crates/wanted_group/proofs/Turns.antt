@@ -22,7 +22,7 @@ use Rattle.lists.specs.Found.{foundOf}
 use Rattle.index.proofs.Pairs.{pairs-snoc}
 use Rattle.wanted_group.specs.Group.{isValve, same, removalsFor, settingsFor, groupFor}
 use Rattle.wanted_group.specs.declared.Limited.{Limited}
-use Rattle.wanted_group.specs.Limited.{Cut, limited, cutBy}
+use Rattle.wanted_group.specs.Limited.{LimitedGroup, limited, limitedBy}
 use Rattle.wanted_group.proofs.Leads.{isWanted, stands, removals-kept, removals-gone, settings-same, settings-new}
 
 -- ---- a word found under a valve
@@ -219,7 +219,7 @@ length-both a b =
     omega (arith, z, x, y)
 
 pub append-over : (a b e : Cells) → 96 < a .count + b .count → e .count ≡ 0 → listed e ≡ []
-    → Kept (e .count) (cutBy (record { found = false; cells = e })) (limited (listed a ++ listed b))
+    → Kept (e .count) (limitedBy (record { found = false; cells = e })) (limited (listed a ++ listed b))
 unfolding limited
 append-over a b e h z q =
     let y = length-both a b in
@@ -227,7 +227,7 @@ append-over a b e h z q =
     record { few = omega (arith, z); so = ap (λ (t : List Cell). record { found = false; entries = t }) q ∙ rw (lt-leb _ _ big) }
 
 pub append-end : (a b : Cells) (n i : ℕ) (ks vs : List ℕ) → b .count ≤ i → a .count + b .count ≤ 96 → Appending a b n i ks vs
-    → Kept n (cutBy (record { found = true; cells = cellsOf n ks vs })) (limited (listed a ++ listed b))
+    → Kept n (limitedBy (record { found = true; cells = cellsOf n ks vs })) (limited (listed a ++ listed b))
 unfolding limited
 append-end a b n i ks vs h few g =
     let past = ap (λ (t : List Cell). pairs n ks vs ++ t) (sym (pairs-past (b .count) (b .keys) (b .vals) i h)) in
@@ -238,7 +238,7 @@ append-end a b n i ks vs h few g =
     let x = g .far in
     record { few = omega (arith, y, x, few); so = ap (λ (t : List Cell). record { found = true; entries = t }) e ∙ rw (le-leb _ _ small) }
 
-pub group-is : (s w a b : List Cell) (n : ℕ) (r : Cut) → a ≡ removalsFor s w → b ≡ settingsFor s w → Kept n r (limited (a ++ b))
+pub group-is : (s w a b : List Cell) (n : ℕ) (r : LimitedGroup) → a ≡ removalsFor s w → b ≡ settingsFor s w → Kept n r (limited (a ++ b))
     → Kept n r (limited (groupFor s w))
 unfolding groupFor
 group-is s w a b n r p q g =

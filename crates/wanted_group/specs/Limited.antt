@@ -7,13 +7,14 @@ use Rattle.lists.specs.Cells.{Entry, listed}
 use Rattle.wanted_group.specs.declared.Limited.{Limited}
 
 -- whether there are at most as many as a group may have, and then the entries
-pub record Cut : Type 0 where
+pub record LimitedGroup : Type 0 where
   pub found : Bool
   pub entries : List Entry
 
-unfoldable pub limited : List Entry → Cut
+-- entries, or none where they are more than 96
+unfoldable pub limited : List Entry → LimitedGroup
 limited es = cond (leb (length es) 96) (record { found = true; entries = es }) (record { found = false; entries = [] })
 
 -- what the code's struct says
-abbrev pub cutBy : Limited → Cut
-cutBy r = record { found = r .found; entries = listed (r .cells) }
+abbrev pub limitedBy : Limited → LimitedGroup
+limitedBy r = record { found = r .found; entries = listed (r .cells) }

@@ -10,7 +10,7 @@ ghost use Rattle.index.specs.Index.{lookup, rising, entriesAllowed};
 ghost use Rattle.index.specs.Search.{Kept};
 ghost use Rattle.index.specs.Lent.{Lent};
 ghost use Rattle.wanted_group.specs.Group.{isValve, same, removalsFor, settingsFor, groupFor};
-ghost use Rattle.wanted_group.specs.Limited.{limited, cutBy};
+ghost use Rattle.wanted_group.specs.Limited.{limited, limitedBy};
 use lists::Cells;
 use lists::Found;
 
@@ -104,7 +104,7 @@ pub struct Limited {
 // One list after another.
 fn appended(a: Cells, b: Cells) -> Limited
     requires { ⌜ (a .count ≤ 192) × (b .count ≤ 192) ⌝ }
-    ensures { λ r. ⌜ Kept (r .cells .count) (cutBy r) (limited (listed a ++ listed b)) ⌝ }
+    ensures { λ r. ⌜ Kept (r .cells .count) (limitedBy r) (limited (listed a ++ listed b)) ⌝ }
 {
     let count = b.count;
     if 96 < a.count + count {
@@ -138,7 +138,7 @@ fn appended(a: Cells, b: Cells) -> Limited
 // The fewest entries that make the settings w of the settings s, removals first.
 pub fn group(s: Cells, w: Cells) -> Limited
     requires { ⌜ (s .count ≤ 192) × (w .count ≤ 192) × (rising (listed s) ≡ true) × (rising (listed w) ≡ true) × (all isValve (listed s) ≡ true) ⌝ }
-    ensures { λ r. ⌜ Kept (r .cells .count) (cutBy r) (limited (groupFor (listed s) (listed w))) ⌝ }
+    ensures { λ r. ⌜ Kept (r .cells .count) (limitedBy r) (limited (groupFor (listed s) (listed w))) ⌝ }
 {
     let a = removals(s, &w.keys, &w.vals, w.count);
     let b = settings(&s.keys, &s.vals, s.count, w);

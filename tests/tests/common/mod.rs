@@ -1,8 +1,10 @@
 //! Shorthands of the tests.
-#![allow(dead_code)]
+#![allow(dead_code, unused_imports)]
 
-pub use journal_tests::calls::EMPTY;
-use journal_tests::random::{Action, Life, Outcome};
+pub use journal_tests::calls::{read_out, LogInto, LogLists, ReadOut, EMPTY};
+use journal_tests::calls::{Calls, Second};
+use journal_tests::player::{Action, Outcome};
+use journal_tests::random::Life;
 use journal_tests::reader::*;
 use journal_tests::writer::{self, Pending, State, Step, Touched};
 use std::io::{ErrorKind, Write};
@@ -45,38 +47,6 @@ pub fn lists(entries: &[(u16, u64)]) -> (Vec<u16>, Vec<u64>) {
 pub fn numbered(log: &[Vec<Entry>]) -> impl Iterator<Item = Change> + '_ {
     let groups = (0..).zip(log);
     groups.flat_map(|(group, entries)| entries.iter().map(move |&entry| Change { group, entry }))
-}
-
-/// The log read-out of one implementation.
-pub type LogInto = fn(&[u8], &mut [u16], &mut [u64], &mut [u32]) -> Result<usize, Refused>;
-
-/// What the log read-out answers, and the lists lent to it after that.
-pub type ReadOut = (Result<usize, Refused>, LogLists);
-
-/// Three lists to lend to the log read-out.
-#[derive(Clone, PartialEq, Eq, Debug)]
-pub struct LogLists {
-    pub keys: Vec<u16>,
-    pub words: Vec<u64>,
-    pub groups: Vec<u32>,
-}
-
-impl LogLists {
-    /// Lists of these lengths, filled with what hardly stands in a log.
-    pub fn new([keys, words, groups]: [usize; 3]) -> LogLists {
-        LogLists {
-            keys: vec![0xA5A5; keys],
-            words: vec![0xA5A5_A5A5_A5A5_A5A5; words],
-            groups: vec![0xA5A5_A5A5; groups],
-        }
-    }
-}
-
-/// The log of a medium read into lists of these lengths.
-pub fn read_out(log_into: LogInto, medium: &[u8], lengths: [usize; 3]) -> ReadOut {
-    let mut lists = LogLists::new(lengths);
-    let answer = log_into(medium, &mut lists.keys, &mut lists.words, &mut lists.groups);
-    (answer, lists)
 }
 
 /// What the read-out of this log must be: 17 where one of the lists is too
@@ -152,14 +122,7 @@ pub fn one_step(medium: &mut [u8], state: &mut State) -> Result<Step, Refused> {
 
 /// Steps until the pending operation is finished; what each step told.
 pub fn finish(medium: &mut [u8], state: &mut State) -> Vec<Step> {
-    let mut steps = Vec::new();
-    loop {
-        let step = one_step(medium, state).expect("a step");
-        steps.push(step);
-        if step.finished {
-            return steps;
-        }
-    }
+    Second::finish_unbuffered(medium, state)
 }
 
 /// What each step touched.
@@ -277,10 +240,12 @@ pub fn circumstances(given: &Given, action: &Action, outcome: Outcome) -> Option
             let weak = given.weak[given.before_a_page(step.touched)?];
             Some(format!("erase before a page{}", if weak { ", the block being weak" } else { "" }))
         }
-        Outcome::Cut { struck: Some(struck), complete } => Some(match given.before_a_page(struck) {
-            Some(_) => "cut inside the erase before a page".to_string(),
-            None => format!("cut inside {pending}{}", if complete { ", complete" } else { "" }),
-        }),
+        Outcome::Cut { struck: Some(struck), complete } => {
+            Some(match given.before_a_page(struck) {
+                Some(_) => "cut inside the erase before a page".to_string(),
+                None => format!("cut inside {pending}{}", if complete { ", complete" } else { "" }),
+            })
+        }
         _ => None,
     }
 }

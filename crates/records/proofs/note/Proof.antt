@@ -4,11 +4,11 @@ use Rattle.records.proofs.note.Statement.{statement}
 use Rattle.records.proofs.note.Tie as tie
 use Rattle.records.proofs.note.Reads as reads
 use Rattle.records.proofs.note.Lts as lts
-use Rattle.records.proofs.rises_on.Reads as rises-on-reads
+use Rattle.records.proofs.still_rises.Reads as still-rises-reads
 
 -- src/lib.rt:54:15
-rises-on-requires : tie.Need-rises-on-requires
-rises-on-requires c κs = search needs
+still-rises-requires : tie.Need-still-rises-requires
+still-rises-requires c κs = search needs
 
 -- src/lib.rt:55:15
 cast-q : tie.Need-cast-q
@@ -50,7 +50,7 @@ pub note-spec : {M : Type 1} → statement M
 note-spec =
     tie.close
     (tie.spec
-    rises-on-requires
+    still-rises-requires
     cast-q
     add-q
     returns

@@ -41,7 +41,7 @@ use Rattle.records.specs.declared.Record.{Record}
 use Rattle.records.specs.declared.Notes.{Notes}
 use Rattle.records.specs.Records.{unnoted, notedAll}
 use Rattle.wanted.specs.declared.WantedAnswer.{WantedAnswer}
-use Rattle.wanted.specs.Wanted.{told, saidBy, AnswersWanted}
+use Rattle.wanted.specs.Wanted.{reply, replyBy, AnswersWanted}
 use Rattle.wanted.specs.Noted.{Orderly, wantedBy}
 use Rattle.wanted.proofs.Noted.{notes-orderly, notes-wanted}
 use Rattle.records.proofs.Record as R₀
@@ -94,7 +94,7 @@ module _ {M : Type 1} (𝓤 : URA M) (H : Heap 𝓤) (A : Atoms 𝓤) (W : Given
   vl = sliceVal (l .ptr) (length (l .now))
 
   abbrev Says : Notes → WantedAnswer → Type 0
-  Says n r = saidBy r ≡ told (wantedBy (length (now m)) (views (now m)) (meaning s) n)
+  Says n r = replyBy r ≡ reply (wantedBy (length (now m)) (views (now m)) (meaning s) n)
 
   abbrev at : Vals wanted.signature (κ, (κ′, tt))
   at = (vm ∷ [], (us ∷ [], (vl ∷ [], tt)))
@@ -171,7 +171,7 @@ module _ {M : Type 1} (𝓤 : URA M) (H : Heap 𝓤) (A : Atoms 𝓤) (W : Given
         land ! (from ! (stop !)) (init ! 14 refl (LL.lawful D₀.the-type D′.the-laws 𝓤 H A W .typed r _ is .0)) $
         returns ! (look ! 14 refl) $ forget ! 6 refl $ forget ! 8 refl $ forget ! 10 refl $ forget ! 12 refl $ forget ! 14 refl $
         move ! (14 ∷ 15 ∷ []) $ free1 ! $ move ! (12 ∷ 13 ∷ []) $ free1 ! $ move ! (10 ∷ 11 ∷ []) $ free1 ! $ move ! (8 ∷ 9 ∷ []) $ free1 ! $ move ! (6 ∷ 7 ∷ []) $ free1 ! $ free0 ! $
-        by ! (exits r u′ (e′ ∙ ap told (ap (wantedBy (length (now m)) (views (now m)) (meaning s)) e ∙ notes-wanted (now l) (length (now m)) (views (now m)) (meaning s)))))))))))))))))
+        by ! (exits r u′ (e′ ∙ ap reply (ap (wantedBy (length (now m)) (views (now m)) (meaning s)) e ∙ notes-wanted (now l) (length (now m)) (views (now m)) (meaning s)))))))))))))))))
 
 module _ {M : Type 1} (𝓤 : URA M) (H : Heap 𝓤) (A : Atoms 𝓤) (W : Given 𝓤 H A) (at-mem : Memory → SProp 𝓤) (run : Routine → Fun 𝓤) (𝓣 : Tables 𝓤 H) (known-gather : Triple 𝓤 (𝓣 .C #gather)
     (Gather 𝓤 H A at-mem run)) (known-answer : Triple 𝓤 (𝓣 .C #answer) (Answer 𝓤 H A at-mem run)) where
