@@ -1,4 +1,4 @@
-/* The valve journal for C programs: recovery, the log, the pages of a medium, the readings of a state, the operations that write, and the
+/* The valve journal for C programs: recovery, the log, whole or change by change, the pages of a medium, the readings of a state, the operations that write, and the
  * write buffer.
  *
  * A medium is a run of bytes in memory, lent to each call as a pointer and a length. It has 4 to 256 blocks of 4096 bytes; a block has 16
@@ -47,7 +47,7 @@ extern "C" {
 
 /* The version of this interface: raised by one by each change of the library that adds, alters or takes away a call, a type, a constant or the
  * meaning of a number. The archive is built from the same commit as this file. */
-#define VJ_INTERFACE_VERSION 1
+#define VJ_INTERFACE_VERSION 2
 
 /* The version of the layout, that is of what stands on a page: raised by one by each change after which a library before it refuses or
  * misreads pages that are written now. 1: kinds 1 to 3. 2: kind 4 too, the page that a flush programs. Every version reads the pages of
@@ -126,6 +126,8 @@ static inline const char *vj_refusal_text(uint8_t number)
 enum {
     VJ_STACK_RECOVER = 87040,
     VJ_STACK_LOG = 78848,
+    VJ_STACK_READER = 78848,
+    VJ_STACK_CHANGE = 1024,
     VJ_STACK_PAGE = 1024,
     VJ_STACK_OPENING = 11264,
     VJ_STACK_SETTINGS = 17408,
@@ -194,6 +196,23 @@ typedef struct VjCount {
     uint8_t number; /* 0, or the number of the refusal */
     size_t count;   /* how many changes the log has, or how many valves are set; on a refusal it means nothing */
 } VjCount;
+
+/* A place in the log: what a program keeps between two calls of vj_change, and all that it needs of the log. Its numbers are the library's. */
+typedef struct VjPlace {
+    uint8_t number; /* 0, or the number of the refusal; with a refusal vj_change gives no more */
+    uint8_t entry;  /* the entry that comes next, */
+    uint16_t page;  /* the page that it stands on, */
+    uint32_t group; /* and the number of its group */
+} VjPlace;
+
+/* What vj_change answers. */
+typedef struct VjChange {
+    uint8_t found;  /* 1 where there is a change; 0 for no more, and then key, group and word are 0 */
+    uint16_t key;   /* the valve, or valve + VJ_REMOVAL */
+    uint32_t group; /* the number of its group, the first complete group in the log being 0 */
+    uint64_t word;  /* the word */
+    VjPlace next;   /* the place after the change; for no more, the place that was asked */
+} VjChange;
 
 /* A part of the medium. */
 typedef struct VjPart {
@@ -279,6 +298,15 @@ VjRecovered vj_recover(const uint8_t *medium, size_t medium_length);
  * them is too short. */
 VjCount vj_log(const uint8_t *medium, size_t medium_length, uint16_t *keys, size_t keys_length, uint64_t *words, size_t words_length,
     uint32_t *groups, size_t groups_length);
+
+/* A place at the start of the log, for vj_change; its number is 0, or that of the refusal. Refuses 1 to 6. */
+VjPlace vj_reader(const uint8_t *medium, size_t medium_length);
+
+/* The change at a place, and the place after it: the log change by change, with no list. From the place that vj_reader gives, each call with the
+ * place that the last one gave, the changes are those of vj_log, keys, words and numbers of groups, in order; then there is no more, however often
+ * it is asked. The medium is lent as it was to vj_reader: a place means nothing once a step was made. A place of any content is answered, one that
+ * the library did not give with any change of the medium's pages or none. Never refuses. */
+VjChange vj_change(const uint8_t *medium, size_t medium_length, VjPlace place);
 
 /* The part of the medium that is page p, counted from 0: 256 bytes from byte 256 x p on. Where the medium, of any length, lacks one of
  * these bytes, offset and length are 0. Never refuses. */
@@ -387,6 +415,9 @@ VJ_SIZE(VjState, 4176) VJ_FIELD(VjState, head, 0, 40) VJ_FIELD(VjState, index, 4
     VJ_FIELD(VjState, erased, 3920, 256)
 VJ_SIZE(VjRecovered, 4184) VJ_FIELD(VjRecovered, number, 0, 1) VJ_FIELD(VjRecovered, state, 8, 4176)
 VJ_SIZE(VjCount, 16) VJ_FIELD(VjCount, number, 0, 1) VJ_FIELD(VjCount, count, 8, 8)
+VJ_SIZE(VjPlace, 8) VJ_FIELD(VjPlace, number, 0, 1) VJ_FIELD(VjPlace, entry, 1, 1) VJ_FIELD(VjPlace, page, 2, 2) VJ_FIELD(VjPlace, group, 4, 4)
+VJ_SIZE(VjChange, 24) VJ_FIELD(VjChange, found, 0, 1) VJ_FIELD(VjChange, key, 2, 2) VJ_FIELD(VjChange, group, 4, 4)
+    VJ_FIELD(VjChange, word, 8, 8) VJ_FIELD(VjChange, next, 16, 8)
 VJ_SIZE(VjPart, 16) VJ_FIELD(VjPart, offset, 0, 8) VJ_FIELD(VjPart, length, 8, 8)
 VJ_SIZE(VjWord, 16) VJ_FIELD(VjWord, number, 0, 1) VJ_FIELD(VjWord, word, 8, 8)
 VJ_SIZE(VjWordPlace, 24) VJ_FIELD(VjWordPlace, number, 0, 1) VJ_FIELD(VjWordPlace, in_buffer, 1, 1) VJ_FIELD(VjWordPlace, offset, 8, 8)

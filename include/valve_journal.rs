@@ -17,7 +17,7 @@ use std::fmt;
 use std::mem::size_of;
 
 /// The versions of the interface and of the layout.
-pub const INTERFACE_VERSION: u32 = 1;
+pub const INTERFACE_VERSION: u32 = 2;
 pub const LAYOUT_VERSION: u32 = 2;
 
 // Sizes and limits, as the header explains them.
@@ -166,6 +166,43 @@ pub struct Record {
     pub word: u64,
 }
 
+/// A place in the log.
+#[repr(C)]
+#[derive(Clone, Copy, PartialEq, Eq, Debug)]
+pub struct Place {
+    pub number: u8,
+    pub entry: u8,
+    pub page: u16,
+    pub group: u32,
+}
+
+/// A change of the log: key and word as stored, and the number of its group.
+#[derive(Clone, Copy, PartialEq, Eq, Debug)]
+pub struct Change {
+    pub key: u16,
+    pub word: u64,
+    pub group: u32,
+}
+
+/// The changes of a log, one after the other.
+#[derive(Clone, Debug)]
+pub struct Changes<'a> {
+    medium: &'a [u8],
+    place: Place,
+}
+
+impl Iterator for Changes<'_> {
+    type Item = Change;
+
+    fn next(&mut self) -> Option<Change> {
+        let (found, after) = change(self.medium, self.place)?;
+        self.place = after;
+        Some(found)
+    }
+}
+
+impl std::iter::FusedIterator for Changes<'_> {}
+
 /// The eight bytes of a valve's word, little-endian, as a part of what holds them.
 #[derive(Clone, Copy, PartialEq, Eq, Debug)]
 pub enum Word<'a> {
@@ -225,6 +262,24 @@ pub fn log(medium: &[u8], keys: &mut [u16], words: &mut [u64], groups: &mut [u32
     let (ml, kl, wl, gl) = (medium.len(), keys.len(), words.len(), groups.len());
     let r = unsafe { vj_log(m, ml, k, kl, w, wl, g, gl) };
     answer(r.number, r.count)
+}
+
+/// The log change by change, with no list: an iterator over the changes of a medium that recovery accepts. It keeps the medium and a place.
+pub fn changes(medium: &[u8]) -> Result<Changes<'_>, Refusal> {
+    let place = unsafe { vj_reader(medium.as_ptr(), medium.len()) };
+    answer(place.number, Changes { medium, place })
+}
+
+/// A place in the log, for a caller that keeps the place and lends the medium anew each time; `changes` does both.
+pub fn reader(medium: &[u8]) -> Result<Place, Refusal> {
+    let place = unsafe { vj_reader(medium.as_ptr(), medium.len()) };
+    answer(place.number, place)
+}
+
+/// The change at a place, and the place after it; none for no more. A place of any content is answered.
+pub fn change(medium: &[u8], place: Place) -> Option<(Change, Place)> {
+    let r = unsafe { vj_change(medium.as_ptr(), medium.len(), place) };
+    (r.found == 1).then_some((Change { key: r.key, word: r.word, group: r.group }, r.next))
 }
 
 /// Page `p` as a part of the medium; empty where the medium lacks one of its bytes.
@@ -369,6 +424,15 @@ struct VjCount {
 }
 
 #[repr(C)]
+struct VjChange {
+    found: u8,
+    key: u16,
+    group: u32,
+    word: u64,
+    next: Place,
+}
+
+#[repr(C)]
 struct VjPart {
     offset: usize,
     length: usize,
@@ -433,6 +497,7 @@ struct VjStepped {
 const _: () = assert!(size_of::<Cells>() == 1928 && size_of::<Head>() == 40 && size_of::<State>() == 4176 && size_of::<Record>() == 16);
 const _: () = assert!(size_of::<VjRecovered>() == 4184 && size_of::<VjCount>() == 16 && size_of::<VjPart>() == 16 && size_of::<VjWord>() == 16);
 const _: () = assert!(size_of::<VjWordPlace>() == 24 && size_of::<VjPick>() == 16 && size_of::<VjSurvey>() == 1538 && size_of::<VjPages>() == 16);
+const _: () = assert!(size_of::<Place>() == 8 && size_of::<VjChange>() == 24);
 const _: () = assert!(size_of::<VjWanted>() == 1936 && size_of::<VjBegun>() == 4184 && size_of::<VjStepped>() == 4192);
 
 // The library's calls. A pointer and the length after it are those of one slice, and what a call writes to is lent to it alone; then each call is
@@ -442,6 +507,8 @@ const _: () = assert!(size_of::<VjWanted>() == 1936 && size_of::<VjBegun>() == 4
 extern "C" {
     fn vj_recover(m: *const u8, ml: usize) -> VjRecovered;
     fn vj_log(m: *const u8, ml: usize, keys: *mut u16, kl: usize, words: *mut u64, wl: usize, groups: *mut u32, gl: usize) -> VjCount;
+    fn vj_reader(m: *const u8, ml: usize) -> Place;
+    fn vj_change(m: *const u8, ml: usize, place: Place) -> VjChange;
     fn vj_page(m: *const u8, ml: usize, p: usize) -> VjPart;
     fn vj_opening(m: *const u8, ml: usize, state: State, valve: u16) -> VjWord;
     fn vj_settings(m: *const u8, ml: usize, state: State, valves: *mut u16, vl: usize, words: *mut u64, wl: usize) -> VjCount;

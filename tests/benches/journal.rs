@@ -8,6 +8,7 @@ use journal_tests::calls::{Calls, Proved, Second, EMPTY};
 use journal_tests::grown::shuffle_blocks;
 use journal_tests::random::{Life, Random};
 use journal_tests::reader::{self, Place, Record, Refused, BLOCK_BYTES, BLOCK_PAGES};
+use journal_tests::valve_journal;
 use journal_tests::writer::{self, State};
 use std::hint::black_box;
 use std::time::{Duration, Instant};
@@ -35,6 +36,12 @@ fn recovery<C: Calls>(lent: &mut Lent<C>) {
 fn log<C: Calls>(lent: &mut Lent<C>) {
     let Lent { medium, keys, words, groups, .. } = lent;
     black_box(C::log_into(medium, keys, words, groups).expect("the log"));
+}
+
+/// The log change by change, with no list: the proved library's reader.
+fn change_by_change(lent: &mut Lent<Proved>) {
+    let changes = valve_journal::changes(&lent.medium).expect("the log");
+    assert!(changes.map(black_box).count() > 0);
 }
 
 /// A morning: recovery, the log into three lists, a commit to its end.
@@ -257,6 +264,11 @@ macro_rules! compare {
     };
 }
 
+/// The log change by change beside the second implementation's lists.
+fn compare_log(name: &str, journal: &Journal) {
+    compare(&format!("{name}, the log, change by change"), journal, change_by_change, log::<Second>);
+}
+
 fn main() {
     sixteen_blocks();
     for (name, journal) in [
@@ -266,6 +278,7 @@ fn main() {
     ] {
         compare!(&format!("256 blocks, recovery, {name}"), &journal, recovery);
         compare!(&format!("256 blocks, the log, {name}"), &journal, log);
+        compare_log(&format!("256 blocks, {name}"), &journal);
         compare!(&format!("256 blocks, 24 openings, {name}"), &journal, openings);
         compare!(&format!("256 blocks, a commit, {name}"), &journal, commit);
     }
@@ -273,6 +286,7 @@ fn main() {
     compare!(name, &all_valves(256), wanted);
     let journal = gathered_full(256);
     compare!("256 blocks, the log, full of single moves gathered", &journal, log);
+    compare_log("256 blocks, full of single moves gathered", &journal);
     for (name, journal) in [
         ("almost full", almost_full(256)),
         ("almost full, blocks in any order", shuffled(almost_full(256))),
@@ -290,6 +304,7 @@ fn sixteen_blocks() {
     compare!("recovery, full", &journal, recovery);
     compare!("recovery, mostly clean", &grown(16, 8), recovery);
     compare!("the log, full", &journal, log);
+    compare_log("full", &journal);
     compare!("the log, full of single moves gathered", &gathered_full(16), log);
     compare!("a morning", &grown(16, 100), morning);
     let formatted = formatted(16);

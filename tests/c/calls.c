@@ -43,6 +43,8 @@ const char *test_refusal_text(uint8_t number);
 
 MAKE(VjRecovered, recover, MEDIUM)
 MAKE(VjCount, log, MEDIUM, GROUP, lent->groups, lent->count)
+MAKE(VjPlace, reader, MEDIUM)
+MAKE(VjChange, change, MEDIUM, (VjPlace){0, 0, (uint16_t)lent->number, 0})
 MAKE(VjPart, page, MEDIUM, lent->number)
 MAKE(VjWord, opening, MEDIUM, *lent->state, (uint16_t)lent->number)
 MAKE(VjCount, settings, MEDIUM, *lent->state, GROUP)
@@ -62,6 +64,8 @@ MAKE(VjStepped, step, MEDIUM, *lent->state, BUFFER)
 const Call test_calls[] = {
     {"vj_recover", VJ_STACK_RECOVER, make_recover},
     {"vj_log", VJ_STACK_LOG, make_log},
+    {"vj_reader", VJ_STACK_READER, make_reader},
+    {"vj_change", VJ_STACK_CHANGE, make_change},
     {"vj_page", VJ_STACK_PAGE, make_page},
     {"vj_opening", VJ_STACK_OPENING, make_opening},
     {"vj_settings", VJ_STACK_SETTINGS, make_settings},

@@ -11,9 +11,12 @@ unsigned test_nulls(uint8_t *medium, size_t length, const VjState *state, uint8_
     const VjCount log = vj_log(medium, length, NONE, NONE, NONE);
     const VjCount settings = vj_settings(medium, length, *state, NONE, NONE);
     const VjWanted wanted = vj_wanted(medium, length, *state, NONE);
+    const VjPlace start = vj_reader(medium, length);
     const int expected[] = {
         vj_recover(NONE).number == VJ_REFUSED_LENGTH,
         vj_log(NONE, NONE, NONE, NONE).number == VJ_REFUSED_LENGTH,
+        vj_reader(NONE).number == VJ_REFUSED_LENGTH,
+        vj_change(NONE, start).found == 0,
         vj_page(NONE, 0).length == 0,
         vj_opening(NONE, *state, 5).number == VJ_REFUSED_LENGTH,
         vj_settings(NONE, *state, NONE, NONE).number == VJ_REFUSED_LENGTH,
@@ -30,6 +33,7 @@ unsigned test_nulls(uint8_t *medium, size_t length, const VjState *state, uint8_
         vj_buffer(NONE, *state, NONE, NONE, NONE) == VJ_REFUSED_LENGTH,
         vj_step(NONE, *state, NONE).number == VJ_REFUSED_LENGTH,
         log.number == VJ_ACCEPTED && log.count == 0,
+        start.number == VJ_ACCEPTED && vj_change(medium, length, start).found == 0,
         settings.number == VJ_ACCEPTED && settings.count == 0,
         wanted.number == VJ_ACCEPTED && wanted.found == 1 && wanted.group.count == 0,
         vj_word(medium, length, *state, NONE, 5).number == VJ_REFUSED_STATE,
