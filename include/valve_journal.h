@@ -95,6 +95,8 @@ enum {
     X(18, VJ_REFUSED_NOT_SET, "the valve is not set") \
     X(19, VJ_REFUSED_RECORD, "the wanted valves do not rise strictly, or one is above 32767") \
     X(20, VJ_REFUSED_RECORDS, "there are more than 192 wanted records") \
+    X(21, VJ_REFUSED_SPAN, "the ends of the span are out of order or past the log") \
+    X(22, VJ_REFUSED_TOUCHED, "more than 192 valves are touched in the span") \
     X(23, VJ_REFUSED_BUFFER_FULL, "a group has more entries than the buffer has places left") \
     X(24, VJ_REFUSED_BUFFER_HOLDS, "the buffer holds a group where an append, a commit or a collection is begun")
 
@@ -128,6 +130,7 @@ enum {
     VJ_STACK_LOG = 78848,
     VJ_STACK_READER = 78848,
     VJ_STACK_CHANGE = 1024,
+    VJ_STACK_EFFECT = 119808,
     VJ_STACK_PAGE = 1024,
     VJ_STACK_OPENING = 11264,
     VJ_STACK_SETTINGS = 17408,
@@ -143,7 +146,7 @@ enum {
     VJ_STACK_FLUSH = 33792,
     VJ_STACK_BUFFER = 30720,
     VJ_STACK_STEP = 51200,
-    VJ_STACK_MOST = 87040
+    VJ_STACK_MOST = 119808
 };
 
 /* A list of at most VJ_MOST_VALVES numbers under keys, the number under keys[i] in vals[i]. In the index: a valve and the address of its entry,
@@ -213,6 +216,12 @@ typedef struct VjChange {
     uint64_t word;  /* the word */
     VjPlace next;   /* the place after the change; for no more, the place that was asked */
 } VjChange;
+
+/* What vj_effect answers. */
+typedef struct VjEffect {
+    uint8_t number; /* 0, or the number of the refusal */
+    VjCells cells;  /* the effect: keys as stored and words, ascending by valve, at most VJ_MOST_VALVES; on a refusal they mean nothing */
+} VjEffect;
 
 /* A part of the medium. */
 typedef struct VjPart {
@@ -307,6 +316,12 @@ VjPlace vj_reader(const uint8_t *medium, size_t medium_length);
  * it is asked. The medium is lent as it was to vj_reader: a place means nothing once a step was made. A place of any content is answered, one that
  * the library did not give with any change of the medium's pages or none. Never refuses. */
 VjChange vj_change(const uint8_t *medium, size_t medium_length, VjPlace place);
+
+/* What a span of the log did: for each valve that the groups from number `first` up to, not including, number `second` touch, ascending, its
+ * last word, or its removal with the key valve + VJ_REMOVAL and word 0. Groups are numbered as vj_log numbers them; equal ends are an empty
+ * span, which touches no valve. Refuses 1 to 6, 21 where the ends are out of order or past the log, and 22 where more than VJ_MOST_VALVES
+ * valves are touched. */
+VjEffect vj_effect(const uint8_t *medium, size_t medium_length, uint32_t first, uint32_t second);
 
 /* The part of the medium that is page p, counted from 0: 256 bytes from byte 256 x p on. Where the medium, of any length, lacks one of
  * these bytes, offset and length are 0. Never refuses. */
@@ -418,6 +433,7 @@ VJ_SIZE(VjCount, 16) VJ_FIELD(VjCount, number, 0, 1) VJ_FIELD(VjCount, count, 8,
 VJ_SIZE(VjPlace, 8) VJ_FIELD(VjPlace, number, 0, 1) VJ_FIELD(VjPlace, entry, 1, 1) VJ_FIELD(VjPlace, page, 2, 2) VJ_FIELD(VjPlace, group, 4, 4)
 VJ_SIZE(VjChange, 24) VJ_FIELD(VjChange, found, 0, 1) VJ_FIELD(VjChange, key, 2, 2) VJ_FIELD(VjChange, group, 4, 4)
     VJ_FIELD(VjChange, word, 8, 8) VJ_FIELD(VjChange, next, 16, 8)
+VJ_SIZE(VjEffect, 1936) VJ_FIELD(VjEffect, number, 0, 1) VJ_FIELD(VjEffect, cells, 8, 1928)
 VJ_SIZE(VjPart, 16) VJ_FIELD(VjPart, offset, 0, 8) VJ_FIELD(VjPart, length, 8, 8)
 VJ_SIZE(VjWord, 16) VJ_FIELD(VjWord, number, 0, 1) VJ_FIELD(VjWord, word, 8, 8)
 VJ_SIZE(VjWordPlace, 24) VJ_FIELD(VjWordPlace, number, 0, 1) VJ_FIELD(VjWordPlace, in_buffer, 1, 1) VJ_FIELD(VjWordPlace, offset, 8, 8)

@@ -93,6 +93,8 @@ refusals! {
     18 NotSet "the valve is not set",
     19 Record "the wanted valves do not rise strictly, or one is above 32767",
     20 Records "there are more than 192 wanted records",
+    21 Span "the ends of the span are out of order or past the log",
+    22 Touched "more than 192 valves are touched in the span",
     23 BufferFull "a group has more entries than the buffer has places left",
     24 BufferHolds "the buffer holds a group where an append, a commit or a collection is begun",
 }
@@ -280,6 +282,13 @@ pub fn reader(medium: &[u8]) -> Result<Place, Refusal> {
 pub fn change(medium: &[u8], place: Place) -> Option<(Change, Place)> {
     let r = unsafe { vj_change(medium.as_ptr(), medium.len(), place) };
     (r.found == 1).then_some((Change { key: r.key, word: r.word, group: r.group }, r.next))
+}
+
+/// What the groups of the log from number `first` up to, not including, number `second` did: for each valve touched, ascending, its last word or its
+/// removal, keys as stored.
+pub fn effect(medium: &[u8], first: u32, second: u32) -> Result<Cells, Refusal> {
+    let r = unsafe { vj_effect(medium.as_ptr(), medium.len(), first, second) };
+    answer(r.number, r.cells)
 }
 
 /// Page `p` as a part of the medium; empty where the medium lacks one of its bytes.
@@ -472,6 +481,12 @@ struct VjPages {
 }
 
 #[repr(C)]
+struct VjEffect {
+    number: u8,
+    cells: Cells,
+}
+
+#[repr(C)]
 struct VjWanted {
     number: u8,
     found: u8,
@@ -498,7 +513,7 @@ const _: () = assert!(size_of::<Cells>() == 1928 && size_of::<Head>() == 40 && s
 const _: () = assert!(size_of::<VjRecovered>() == 4184 && size_of::<VjCount>() == 16 && size_of::<VjPart>() == 16 && size_of::<VjWord>() == 16);
 const _: () = assert!(size_of::<VjWordPlace>() == 24 && size_of::<VjPick>() == 16 && size_of::<VjSurvey>() == 1538 && size_of::<VjPages>() == 16);
 const _: () = assert!(size_of::<Place>() == 8 && size_of::<VjChange>() == 24);
-const _: () = assert!(size_of::<VjWanted>() == 1936 && size_of::<VjBegun>() == 4184 && size_of::<VjStepped>() == 4192);
+const _: () = assert!(size_of::<VjWanted>() == 1936 && size_of::<VjEffect>() == 1936 && size_of::<VjBegun>() == 4184 && size_of::<VjStepped>() == 4192);
 
 // The library's calls. A pointer and the length after it are those of one slice, and what a call writes to is lent to it alone; then each call is
 // safe for every value of its arguments. The functions above keep to that.
@@ -509,6 +524,7 @@ extern "C" {
     fn vj_log(m: *const u8, ml: usize, keys: *mut u16, kl: usize, words: *mut u64, wl: usize, groups: *mut u32, gl: usize) -> VjCount;
     fn vj_reader(m: *const u8, ml: usize) -> Place;
     fn vj_change(m: *const u8, ml: usize, place: Place) -> VjChange;
+    fn vj_effect(m: *const u8, ml: usize, first: u32, second: u32) -> VjEffect;
     fn vj_page(m: *const u8, ml: usize, p: usize) -> VjPart;
     fn vj_opening(m: *const u8, ml: usize, state: State, valve: u16) -> VjWord;
     fn vj_settings(m: *const u8, ml: usize, state: State, valves: *mut u16, vl: usize, words: *mut u64, wl: usize) -> VjCount;

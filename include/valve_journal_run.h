@@ -48,7 +48,7 @@ enum {
 };
 
 /* The most bytes of stack that a call takes, the callbacks aside: tests/tests/stack.rs measures it. */
-enum { VJ_RUN_STACK_MOST = VJ_STACK_MOST + 8192 };
+enum { VJ_RUN_STACK_MOST = VJ_STACK_RECOVER + 8192 };
 
 /* What a chip can do. Each callback gets `user`, and answers 0 where it is done and any other number where it failed. */
 typedef struct VjDriver {

@@ -5,7 +5,10 @@
 //!     cargo bench --offline --manifest-path tests/Cargo.toml
 
 use journal_tests::calls::{Calls, Proved, Second, EMPTY};
+use journal_tests::effects::{self, Effect};
 use journal_tests::grown::shuffle_blocks;
+use journal_tests::logs;
+use journal_tests::proved;
 use journal_tests::random::{Life, Random};
 use journal_tests::reader::{self, Place, Record, Refused, BLOCK_BYTES, BLOCK_PAGES};
 use journal_tests::valve_journal;
@@ -42,6 +45,14 @@ fn log<C: Calls>(lent: &mut Lent<C>) {
 fn change_by_change(lent: &mut Lent<Proved>) {
     let changes = valve_journal::changes(&lent.medium).expect("the log");
     assert!(changes.map(black_box).count() > 0);
+}
+
+/// The effect of a span of the log, by the call of one of both.
+fn effect<C: Calls>(
+    call: impl Fn(&[u8], usize, usize) -> Result<Effect, Refused>,
+    (first, second): (usize, usize),
+) -> impl Fn(&mut Lent<C>) {
+    move |lent| drop(black_box(call(&lent.medium, first, second).expect("an effect")))
 }
 
 /// A morning: recovery, the log into three lists, a commit to its end.
@@ -185,8 +196,7 @@ fn shuffled((medium, state): Journal) -> Journal {
 fn gathered_full(blocks: usize) -> Journal {
     let mut lent = lend::<Second>(&formatted(blocks));
     gathered(&mut lent);
-    let state = reader::recover(&lent.medium).expect("recovery");
-    (lent.medium, state)
+    recovered(lent.medium)
 }
 
 /// The head closed and a commit behind it, then collections till the picker's
@@ -202,6 +212,12 @@ fn collectible((medium, state): Journal) -> Journal {
         }
         collection(&mut lent);
     }
+}
+
+/// A medium with the state that recovery gives.
+fn recovered(medium: Vec<u8>) -> Journal {
+    let state = reader::recover(&medium).expect("recovery");
+    (medium, state)
 }
 
 // ---------------------------------------------------------------------------
@@ -266,7 +282,8 @@ macro_rules! compare {
 
 /// The log change by change beside the second implementation's lists.
 fn compare_log(name: &str, journal: &Journal) {
-    compare(&format!("{name}, the log, change by change"), journal, change_by_change, log::<Second>);
+    let name = format!("{name}, the log, change by change");
+    compare(&name, journal, change_by_change, log::<Second>);
 }
 
 fn main() {
@@ -297,6 +314,21 @@ fn main() {
         compare!(&format!("256 blocks, pick and collect, {name}"), &journal, collection);
     }
     compare!("256 blocks, groups of 24 until 13", &formatted(256), appends, 24);
+    largest_logs();
+}
+
+/// The readings of the largest logs, beside recovery of the same medium.
+fn largest_logs() {
+    for made in logs::large() {
+        let (n, name) = (made.log.len(), format!("256 blocks, {}", made.name));
+        let journal = recovered(made.medium);
+        compare!(&format!("{name}, recovery"), &journal, recovery);
+        compare_log(&name, &journal);
+        for (what, span) in [("the effect of all", (0, n)), ("of the second half", (n / 2, n))] {
+            let (proved, second) = (effect(proved::effect, span), effect(effects::effect, span));
+            compare(&format!("{name}, {what}"), &journal, proved, second);
+        }
+    }
 }
 
 fn sixteen_blocks() {

@@ -15,7 +15,7 @@ typedef struct Lent {
     size_t count;
     const VjRecord *records;
     size_t records_count;
-    size_t number; /* the page, the valve or the block */
+    size_t number; /* the page, the valve, the block, or the end of a span of the log */
 } Lent;
 
 /* A call with its name and the most stack that the header says it takes. */
@@ -45,6 +45,7 @@ MAKE(VjRecovered, recover, MEDIUM)
 MAKE(VjCount, log, MEDIUM, GROUP, lent->groups, lent->count)
 MAKE(VjPlace, reader, MEDIUM)
 MAKE(VjChange, change, MEDIUM, (VjPlace){0, 0, (uint16_t)lent->number, 0})
+MAKE(VjEffect, effect, MEDIUM, 0, (uint32_t)lent->number)
 MAKE(VjPart, page, MEDIUM, lent->number)
 MAKE(VjWord, opening, MEDIUM, *lent->state, (uint16_t)lent->number)
 MAKE(VjCount, settings, MEDIUM, *lent->state, GROUP)
@@ -66,6 +67,7 @@ const Call test_calls[] = {
     {"vj_log", VJ_STACK_LOG, make_log},
     {"vj_reader", VJ_STACK_READER, make_reader},
     {"vj_change", VJ_STACK_CHANGE, make_change},
+    {"vj_effect", VJ_STACK_EFFECT, make_effect},
     {"vj_page", VJ_STACK_PAGE, make_page},
     {"vj_opening", VJ_STACK_OPENING, make_opening},
     {"vj_settings", VJ_STACK_SETTINGS, make_settings},

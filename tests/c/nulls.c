@@ -5,18 +5,30 @@
 
 unsigned test_nulls(uint8_t *medium, size_t length, const VjState *state, uint8_t *buffer);
 
+/* Whether there is no more at a place, so that it is the place that was asked. */
+static int no_more_at(VjChange answer, VjPlace asked)
+{
+    const VjPlace next = answer.next;
+    return answer.found == 0 && answer.key == 0 && answer.group == 0 && answer.word == 0
+        && next.number == asked.number && next.entry == asked.entry && next.page == asked.page && next.group == asked.group;
+}
+
 /* The answer that is not as expected, counted from 1; 0 where all are. The medium was just formatted, the state is its, the buffer is empty. */
 unsigned test_nulls(uint8_t *medium, size_t length, const VjState *state, uint8_t *buffer)
 {
     const VjCount log = vj_log(medium, length, NONE, NONE, NONE);
     const VjCount settings = vj_settings(medium, length, *state, NONE, NONE);
     const VjWanted wanted = vj_wanted(medium, length, *state, NONE);
+    const VjEffect effect = vj_effect(medium, length, 0, 0);
     const VjPlace start = vj_reader(medium, length);
+    const VjPlace refused = vj_reader(NONE);
     const int expected[] = {
         vj_recover(NONE).number == VJ_REFUSED_LENGTH,
         vj_log(NONE, NONE, NONE, NONE).number == VJ_REFUSED_LENGTH,
-        vj_reader(NONE).number == VJ_REFUSED_LENGTH,
-        vj_change(NONE, start).found == 0,
+        refused.number == VJ_REFUSED_LENGTH,
+        no_more_at(vj_change(NONE, start), start),
+        no_more_at(vj_change(medium, length, refused), refused),
+        vj_effect(NONE, 0, 0).number == VJ_REFUSED_LENGTH,
         vj_page(NONE, 0).length == 0,
         vj_opening(NONE, *state, 5).number == VJ_REFUSED_LENGTH,
         vj_settings(NONE, *state, NONE, NONE).number == VJ_REFUSED_LENGTH,
@@ -33,7 +45,9 @@ unsigned test_nulls(uint8_t *medium, size_t length, const VjState *state, uint8_
         vj_buffer(NONE, *state, NONE, NONE, NONE) == VJ_REFUSED_LENGTH,
         vj_step(NONE, *state, NONE).number == VJ_REFUSED_LENGTH,
         log.number == VJ_ACCEPTED && log.count == 0,
-        start.number == VJ_ACCEPTED && vj_change(medium, length, start).found == 0,
+        start.number == VJ_ACCEPTED && no_more_at(vj_change(medium, length, start), start),
+        effect.number == VJ_ACCEPTED && effect.cells.count == 0,
+        vj_effect(medium, length, 0, 1).number == VJ_REFUSED_SPAN,
         settings.number == VJ_ACCEPTED && settings.count == 0,
         wanted.number == VJ_ACCEPTED && wanted.found == 1 && wanted.group.count == 0,
         vj_word(medium, length, *state, NONE, 5).number == VJ_REFUSED_STATE,

@@ -3,9 +3,13 @@
 //!
 //! * [`reader`]: pages, recovery, the log, readings of a state, fitness.
 //! * [`writer`]: format, append, commit, collect, buffer, flush and step.
+//! * [`effects`]: what a span of the log did; [`mattered`]: which one group
+//!   mattered.
+//! * [`dispatcher`]: which operation comes next.
 //! * [`history`]: the plain history that recovery is held to.
 //! * [`before`]: pages that set valve 0, written by hand.
 //! * [`grown`]: journals of many blocks, written for long.
+//! * [`logs`]: logs and media made for the readings of the log.
 //! * [`random`]: media, lists of calls, cuts and damage made by chance, always
 //!   the same ones for the same seed.
 //! * [`valve_journal`]: the first one, the proved library, as users of Rust call
@@ -19,8 +23,12 @@
 
 pub mod before;
 pub mod calls;
+pub mod dispatcher;
+pub mod effects;
 pub mod grown;
 pub mod history;
+pub mod logs;
+pub mod mattered;
 pub mod player;
 pub mod proved;
 pub mod random;

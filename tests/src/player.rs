@@ -74,8 +74,6 @@ pub enum Outcome {
     },
 }
 
-/// A medium, the state last handed back (none after a cut), the buffer as the
-
 /// What a list is played on.
 pub struct Player<'a, C: Calls> {
     pub medium: &'a mut [u8],

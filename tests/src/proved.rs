@@ -6,11 +6,13 @@
 //! given, on a refusal too, so that a caller can see whether it is the same.
 
 pub use crate::valve_journal::{
-    page, Cells as VjCells, Head as VjHead, State as VjState, APPEND, COLLECT, COMMIT, FLUSH,
-    FORMAT, IDLE,
+    page, Cells as VjCells, Head as VjHead, Place as VjPlace, State as VjState, APPEND, COLLECT,
+    COMMIT, FLUSH, FORMAT, IDLE,
 };
 
-use crate::reader::{Entry, Pending, Place, Record, Refused, State, WordAt, MAX_BLOCKS};
+use crate::reader::{
+    self, Change, Entry, Pending, Place, Record, Refused, State, WordAt, MAX_BLOCKS,
+};
 use crate::valve_journal::{self, Refusal, Touched, Word};
 use crate::writer;
 
@@ -128,6 +130,59 @@ pub fn log_into(
     groups: &mut [u32],
 ) -> Result<usize, Refused> {
     Ok(valve_journal::log(medium, keys, words, groups)?)
+}
+
+/// Makes a reader of the log: its place.
+pub fn reader(medium: &[u8]) -> Result<VjPlace, Refused> {
+    Ok(valve_journal::reader(medium)?)
+}
+
+/// The change at a place, and the place after it; none for no more.
+pub fn change(medium: &[u8], place: VjPlace) -> Option<(Change, VjPlace)> {
+    valve_journal::change(medium, place).map(|(change, next)| (change.into(), next))
+}
+
+impl From<valve_journal::Change> for Change {
+    fn from(change: valve_journal::Change) -> Change {
+        let entry = Entry { key: change.key, word: change.word };
+        Change { group: change.group, entry }
+    }
+}
+
+/// The log read change by change, and no change more than a log can have.
+pub fn changes(medium: &[u8]) -> Result<Vec<Change>, Refused> {
+    let most = reader::most_changes(medium);
+    let changes = valve_journal::changes(medium)?.map(Change::from).take(most + 1);
+    let changes = changes.collect::<Vec<_>>();
+    assert!(changes.len() <= most, "it never ends");
+    Ok(changes)
+}
+
+/// The log read change by change into three lists, with the refusals that its
+/// read-out has.
+pub fn one_by_one(
+    medium: &[u8],
+    keys: &mut [u16],
+    words: &mut [u64],
+    groups: &mut [u32],
+) -> Result<usize, Refused> {
+    let changes = changes(medium)?;
+    if changes.len() > keys.len().min(words.len()).min(groups.len()) {
+        return Err(Refused(17));
+    }
+    for (at, Change { group, entry }) in changes.iter().enumerate() {
+        (keys[at], words[at], groups[at]) = (entry.key, entry.word, *group);
+    }
+    Ok(changes.len())
+}
+
+/// The effect of a span of groups. A number that 32 bits do not hold is past every
+/// log, as is the greatest that they do.
+pub fn effect(medium: &[u8], first: usize, second: usize) -> Result<Vec<Entry>, Refused> {
+    let [first, second] = [first, second].map(|end| u32::try_from(end).unwrap_or(u32::MAX));
+    let cells = valve_journal::effect(medium, first, second)?;
+    let entry = |(key, word)| Entry { key, word };
+    Ok(cells.used().expect("at most 192 cells").map(entry).collect())
 }
 
 /// Opening of a valve: its word.

@@ -94,7 +94,7 @@ pub struct Lent<'a> {
     pub words: &'a mut [u64],
     pub groups: &'a mut [u32],
     pub records: &'a [Record],
-    /// The page, the valve or the block.
+    /// The page, the valve, the block, or the end of a span of the log.
     pub number: usize,
 }
 

@@ -10,15 +10,15 @@ use journal_tests::random::{refused_medium, ways, Random, Sketch};
 use journal_tests::reader::*;
 use journal_tests::writer::{self, lay_gathered, lay_page, put_page, State, Touched};
 
-/// The log read-out of both.
-const BOTH: [LogInto; 2] = [log_into, proved::log_into];
+/// The log read-out of both, and the proved library's change by change.
+const READ_OUTS: [LogInto; 3] = [log_into, proved::log_into, proved::one_by_one];
 
-/// Both read this log, in lists of its length and in longer ones.
+/// All read this log, in lists of its length and in longer ones.
 fn check(medium: &[u8], log: &[Vec<Entry>]) {
     let length = log.iter().map(Vec::len).sum();
     for lengths in [[length; 3], [length + 2, length + 3, length + 1]] {
         let expected = expected_read_out(log, lengths);
-        for log_into in BOTH {
+        for log_into in READ_OUTS {
             assert!(read_out(log_into, medium, lengths) == expected, "{} groups", log.len());
         }
     }
@@ -240,7 +240,7 @@ fn every_division_of_a_page() {
             let number = |place: usize| (ends & ((1 << place) - 1)).count_ones();
             let mut expected: Vec<u32> = (0..n).map(number).collect();
             expected.push(inner.count_ones() + 1);
-            for log_into in BOTH {
+            for log_into in READ_OUTS {
                 let (answer, lists) = read_out(log_into, &medium, [n + 1; 3]);
                 assert_eq!((answer, &lists.groups), (Ok(n + 1), &expected));
             }
@@ -399,7 +399,7 @@ fn short_and_long_lists() {
             let expected = expected_read_out(&laid.log, lengths);
             let fits = lengths.iter().all(|&places| places >= length);
             assert_eq!(expected.0, if fits { Ok(length) } else { refused(17) });
-            for log_into in BOTH {
+            for log_into in READ_OUTS {
                 assert_eq!(read_out(log_into, &laid.sketch.medium, lengths), expected);
             }
         }
@@ -415,7 +415,7 @@ fn refusals_leave_the_lists() {
             let medium = refused_medium(&mut random, number, way);
             let most = most_changes(&medium);
             let lengths = [0; 3].map(|_| random.one_of(&[0, 1, most]));
-            for log_into in BOTH {
+            for log_into in READ_OUTS {
                 let (answer, lists) = read_out(log_into, &medium, lengths);
                 assert_eq!(answer, refused(number));
                 assert!(lists == LogLists::new(lengths));

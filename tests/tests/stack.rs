@@ -61,7 +61,8 @@ impl Table {
         *deepest = taken.max(*deepest);
     }
 
-    /// Recovery and the log of a medium, whole and change by change.
+    /// Recovery and the log of a medium, whole and change by change, and the whole
+    /// log's effect.
     fn recovery(&mut self, medium: &[u8]) {
         let mut desk = Desk::new(medium, &Proved::of(&State::at_format(256)), 0);
         let most = reader::most_changes(medium);
@@ -73,6 +74,10 @@ impl Table {
         for page in [0, 2048, 4095] {
             self.note("vj_change", &desk, page);
         }
+        let mut groups = vec![0; most];
+        let changes = Proved::log_into(medium, &mut desk.keys, &mut desk.words, &mut groups);
+        let last = changes.map_or(None, |count| groups[..count].last().copied());
+        self.note("vj_effect", &desk, last.map_or(0, |group| group as usize + 1));
     }
 
     /// The readings of a state, and what can be begun with it.

@@ -114,6 +114,45 @@ fn unset_valve() {
     show::answer(b"18 valve 5 after format: ", r.number);
 }
 
+// What a span of the log did, after a list of calls.
+fn say_effect(text: &[u8], calls: &[u64], first: u32, second: u32) {
+    let mut m = [255u8; 16384];
+    trials::play(&mut m, calls);
+    let r = spans::effect(&m, first, second);
+    show::answer(text, r.number);
+}
+
+// 21: ends out of order, an end past the log. 22: 192 valves set, one removed and another set.
+fn log_spans() {
+    say_effect(b"21 from 1 to 0: ", &[FORMATTED, SET, 1, 5], 1, 0);
+    say_effect(
+        b"21 from 0 to 2, one group: ",
+        &[FORMATTED, SET, 1, 5],
+        0,
+        2,
+    );
+    say_effect(
+        b"22 193 valves touched: ",
+        &[
+            FORMATTED,
+            SET,
+            96,
+            1,
+            SET,
+            96,
+            97,
+            APPENDED,
+            2,
+            32769,
+            193,
+            0,
+            1000,
+        ],
+        0,
+        3,
+    );
+}
+
 // 23: a group that the write buffer has no places for. 24: a commit while it holds one.
 fn buffers() {
     say(b"23 17 entries: ", &[FORMATTED, BUFFER_VALVES, 17, 1]);
@@ -138,5 +177,6 @@ fn main() {
     damage();
     short_lists();
     unset_valve();
+    log_spans();
     buffers();
 }

@@ -9,3 +9,4 @@ pub mod Word
 pub mod Settings
 pub mod Flushable
 pub mod Older
+pub mod SinceCommit

@@ -1,0 +1,53 @@
+-- Paper 7: "On a medium reached as the valve log's statement describes, the whole log's effect, limit 22 aside, laid on the settings at the last
+-- counted commit (none set before the first), gives recovery's settings."
+use mathlib.Core.Path.{_≡_}
+use mathlib.Core.Bool.{Bool, true, false, cond}
+use mathlib.Core.List.{List, []}
+use lib.ListN.{length}
+use Prim.Native.Nat.{ℕ, zero, suc}
+use Rattle.lists.specs.Cells.{Entry, Setting}
+use Rattle.flash.specs.Medium.{views}
+use Rattle.index.specs.Index.{assignAll}
+use Rattle.state.specs.State.{Held}
+use Rattle.lists.specs.Needs.{gives}
+use Rattle.recovery.specs.Recovery.{recoveryWith, recover as recoverOf}
+use Rattle.effects.specs.Effects.{effect}
+use Rattle.valve_log.specs.History.{UnderWay, nothing, appending, committing, collecting, flushing, History, Told, unchanged, beganAppend, beganCommit, beganCollect, putIn, beganFlush, steppedPage, steppedBlock, recovery}
+use Rattle.valve_log.specs.Reached.{World, happen, Reached, Words}
+
+-- a commit has one page left, so that a step on a page finishes it and it counts
+unfoldable pub commitEndsNext : UnderWay → Bool
+commitEndsNext nothing = false
+commitEndsNext (appending es n) = false
+commitEndsNext (committing zero) = false
+commitEndsNext (committing (suc zero)) = true
+commitEndsNext (committing (suc (suc n))) = false
+commitEndsNext collecting = false
+commitEndsNext (flushing gs n) = false
+
+-- The settings at the last counted commit, s so far, after what the history h is told: where a commit counts they are the history's.
+unfoldable pub committed : List Setting → History → Told → List Setting
+committed s h unchanged = s
+committed s h (beganAppend es) = s
+committed s h beganCommit = s
+committed s h beganCollect = s
+committed s h (putIn es) = s
+committed s h beganFlush = s
+committed s h steppedPage = cond (commitEndsNext (h .underWay)) (h .settings) s
+committed s h steppedBlock = s
+committed s h recovery = s
+
+-- along a list of calls and cuts; "none set before the first"
+unfoldable pub lastCommitted : (w : World) (h : History) → Reached w h → List Setting
+lastCommitted w h (Reached.start v F e) = []
+lastCommitted w h (Reached.next v g e r) = committed (lastCommitted v g r) g (happen v e .told)
+
+-- Recovery is accepted, and the effect of its whole log, laid on some settings, gives its valves, each with the word at its address.
+pub record Explains (m : List ℕ) (before : List Setting) : Type 0 where
+  pub log : List (List Entry)
+  pub state : Held
+  pub accepts : recoverOf (length m) (views m) ≡ gives (recoveryWith log state)
+  pub settings : Words (views m) (state .index) (assignAll before (effect log))
+
+unfoldable pub EffectExplains : Type 0
+EffectExplains = (w : World) (h : History) (r : Reached w h) → Explains (w .medium) (lastCommitted w h r)
