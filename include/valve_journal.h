@@ -98,7 +98,8 @@ enum {
     X(21, VJ_REFUSED_SPAN, "the ends of the span are out of order or past the log") \
     X(22, VJ_REFUSED_TOUCHED, "more than 192 valves are touched in the span") \
     X(23, VJ_REFUSED_BUFFER_FULL, "a group has more entries than the buffer has places left") \
-    X(24, VJ_REFUSED_BUFFER_HOLDS, "the buffer holds a group where an append, a commit or a collection is begun")
+    X(24, VJ_REFUSED_BUFFER_HOLDS, "the buffer holds a group where an append, a commit or a collection is begun") \
+    X(25, VJ_REFUSED_SHORT_GROUPS, "the lent list is too short for all groups that mattered")
 
 /* Their names, and VJ_ACCEPTED for no refusal. */
 #define VJ_REFUSAL_NAME(number, name, text) , name = number
@@ -131,6 +132,7 @@ enum {
     VJ_STACK_READER = 78848,
     VJ_STACK_CHANGE = 1024,
     VJ_STACK_EFFECT = 119808,
+    VJ_STACK_MATTERED = 185344,
     VJ_STACK_PAGE = 1024,
     VJ_STACK_OPENING = 11264,
     VJ_STACK_SETTINGS = 17408,
@@ -146,7 +148,7 @@ enum {
     VJ_STACK_FLUSH = 33792,
     VJ_STACK_BUFFER = 30720,
     VJ_STACK_STEP = 51200,
-    VJ_STACK_MOST = 119808
+    VJ_STACK_MOST = 185344
 };
 
 /* A list of at most VJ_MOST_VALVES numbers under keys, the number under keys[i] in vals[i]. In the index: a valve and the address of its entry,
@@ -194,10 +196,10 @@ typedef struct VjRecovered {
     VjState state;  /* the state, with nothing pending; on a refusal it means nothing */
 } VjRecovered;
 
-/* What vj_log and vj_settings answer. */
+/* What vj_log, vj_mattered and vj_settings answer. */
 typedef struct VjCount {
     uint8_t number; /* 0, or the number of the refusal */
-    size_t count;   /* how many changes the log has, or how many valves are set; on a refusal it means nothing */
+    size_t count;   /* how many changes the log has, how many groups mattered, or how many valves are set; on a refusal it means nothing */
 } VjCount;
 
 /* A place in the log: what a program keeps between two calls of vj_change, and all that it needs of the log. Its numbers are the library's. */
@@ -322,6 +324,12 @@ VjChange vj_change(const uint8_t *medium, size_t medium_length, VjPlace place);
  * span, which touches no valve. Refuses 1 to 6, 21 where the ends are out of order or past the log, and 22 where more than VJ_MOST_VALVES
  * valves are touched. */
 VjEffect vj_effect(const uint8_t *medium, size_t medium_length, uint32_t first, uint32_t second);
+
+/* Lists the groups that mattered, by the numbers that vj_log gives them: each without which the log would leave some valve otherwise, that is
+ * with another last word, with a removal in the place of a word, or not touched at all. Fewest entries first, and the earlier first where two
+ * have as many; each once. A list of 256 places for each block of the medium is long enough. Places past them stay as they were, and on a
+ * refusal all do. Refuses 1 to 6, and 25 where the list is too short for all of them. */
+VjCount vj_mattered(const uint8_t *medium, size_t medium_length, uint32_t *groups, size_t groups_length);
 
 /* The part of the medium that is page p, counted from 0: 256 bytes from byte 256 x p on. Where the medium, of any length, lacks one of
  * these bytes, offset and length are 0. Never refuses. */

@@ -97,6 +97,7 @@ refusals! {
     22 Touched "more than 192 valves are touched in the span",
     23 BufferFull "a group has more entries than the buffer has places left",
     24 BufferHolds "the buffer holds a group where an append, a commit or a collection is begun",
+    25 ShortGroups "the lent list is too short for all groups that mattered",
 }
 
 impl fmt::Display for Refusal {
@@ -289,6 +290,12 @@ pub fn change(medium: &[u8], place: Place) -> Option<(Change, Place)> {
 pub fn effect(medium: &[u8], first: u32, second: u32) -> Result<Cells, Refusal> {
     let r = unsafe { vj_effect(medium.as_ptr(), medium.len(), first, second) };
     answer(r.number, r.cells)
+}
+
+/// Lists the numbers of the groups that mattered, fewest entries first and the earlier first on a tie; hands back how many they are.
+pub fn mattered(medium: &[u8], groups: &mut [u32]) -> Result<usize, Refusal> {
+    let r = unsafe { vj_mattered(medium.as_ptr(), medium.len(), groups.as_mut_ptr(), groups.len()) };
+    answer(r.number, r.count)
 }
 
 /// Page `p` as a part of the medium; empty where the medium lacks one of its bytes.
@@ -525,6 +532,7 @@ extern "C" {
     fn vj_reader(m: *const u8, ml: usize) -> Place;
     fn vj_change(m: *const u8, ml: usize, place: Place) -> VjChange;
     fn vj_effect(m: *const u8, ml: usize, first: u32, second: u32) -> VjEffect;
+    fn vj_mattered(m: *const u8, ml: usize, groups: *mut u32, gl: usize) -> VjCount;
     fn vj_page(m: *const u8, ml: usize, p: usize) -> VjPart;
     fn vj_opening(m: *const u8, ml: usize, state: State, valve: u16) -> VjWord;
     fn vj_settings(m: *const u8, ml: usize, state: State, valves: *mut u16, vl: usize, words: *mut u64, wl: usize) -> VjCount;

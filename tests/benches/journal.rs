@@ -8,6 +8,7 @@ use journal_tests::calls::{Calls, Proved, Second, EMPTY};
 use journal_tests::effects::{self, Effect};
 use journal_tests::grown::shuffle_blocks;
 use journal_tests::logs;
+use journal_tests::mattered::mattered_into;
 use journal_tests::proved;
 use journal_tests::random::{Life, Random};
 use journal_tests::reader::{self, Place, Record, Refused, BLOCK_BYTES, BLOCK_PAGES};
@@ -53,6 +54,13 @@ fn effect<C: Calls>(
     (first, second): (usize, usize),
 ) -> impl Fn(&mut Lent<C>) {
     move |lent| drop(black_box(call(&lent.medium, first, second).expect("an effect")))
+}
+
+/// The groups that mattered, by the call of one of both.
+fn mattered<C: Calls>(
+    call: impl Fn(&[u8], &mut [u32]) -> Result<usize, Refused>,
+) -> impl Fn(&mut Lent<C>) {
+    move |lent| assert!(black_box(call(&lent.medium, &mut lent.groups)).is_ok())
 }
 
 /// A morning: recovery, the log into three lists, a commit to its end.
@@ -328,6 +336,8 @@ fn largest_logs() {
             let (proved, second) = (effect(proved::effect, span), effect(effects::effect, span));
             compare(&format!("{name}, {what}"), &journal, proved, second);
         }
+        let (proved, second) = (mattered(proved::mattered_into), mattered(mattered_into));
+        compare(&format!("{name}, which groups mattered"), &journal, proved, second);
     }
 }
 

@@ -46,6 +46,7 @@ MAKE(VjCount, log, MEDIUM, GROUP, lent->groups, lent->count)
 MAKE(VjPlace, reader, MEDIUM)
 MAKE(VjChange, change, MEDIUM, (VjPlace){0, 0, (uint16_t)lent->number, 0})
 MAKE(VjEffect, effect, MEDIUM, 0, (uint32_t)lent->number)
+MAKE(VjCount, mattered, MEDIUM, lent->groups, lent->count)
 MAKE(VjPart, page, MEDIUM, lent->number)
 MAKE(VjWord, opening, MEDIUM, *lent->state, (uint16_t)lent->number)
 MAKE(VjCount, settings, MEDIUM, *lent->state, GROUP)
@@ -68,6 +69,7 @@ const Call test_calls[] = {
     {"vj_reader", VJ_STACK_READER, make_reader},
     {"vj_change", VJ_STACK_CHANGE, make_change},
     {"vj_effect", VJ_STACK_EFFECT, make_effect},
+    {"vj_mattered", VJ_STACK_MATTERED, make_mattered},
     {"vj_page", VJ_STACK_PAGE, make_page},
     {"vj_opening", VJ_STACK_OPENING, make_opening},
     {"vj_settings", VJ_STACK_SETTINGS, make_settings},

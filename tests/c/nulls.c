@@ -29,6 +29,8 @@ unsigned test_nulls(uint8_t *medium, size_t length, const VjState *state, uint8_
         no_more_at(vj_change(NONE, start), start),
         no_more_at(vj_change(medium, length, refused), refused),
         vj_effect(NONE, 0, 0).number == VJ_REFUSED_LENGTH,
+        vj_mattered(NONE, NONE).number == VJ_REFUSED_LENGTH,
+        vj_mattered(medium, length, NONE).number == VJ_ACCEPTED,
         vj_page(NONE, 0).length == 0,
         vj_opening(NONE, *state, 5).number == VJ_REFUSED_LENGTH,
         vj_settings(NONE, *state, NONE, NONE).number == VJ_REFUSED_LENGTH,

@@ -195,8 +195,8 @@ pub fn small() -> Vec<Made> {
     ]
 }
 
-/// The largest logs: 65,520 groups of one entry, and 98,280 changes in large and
-/// in small groups.
+/// The largest logs: 65,520 groups of one entry, almost as many behind a group of
+/// 96, and 98,280 changes in large and in small groups.
 pub fn large() -> Vec<Made> {
     let on = |name, pages, log| Made::new(name, MAX_BLOCKS, pages, log);
     vec![
@@ -206,6 +206,7 @@ pub fn large() -> Vec<Made> {
             Pages::Gathered,
             once_more(),
         ),
+        on("65456 groups of one entry behind one of 96", Pages::Gathered, largest_and_singles()),
         on("98280 changes in groups of 24", Pages::Own, most_changes(24)),
         on("98280 changes in groups of 96", Pages::Own, most_changes(96)),
     ]
@@ -299,6 +300,14 @@ fn once_more() -> Log {
         _ => setting(191, 1),
     };
     (0..MOST_GROUPS).map(|n| vec![entry(n)]).collect()
+}
+
+/// A group of 96 entries, on four pages, and as many of one entry, on other valves,
+/// as have their place behind it: the smallest groups matter, and the largest.
+fn largest_and_singles() -> Log {
+    let entry = |n: usize| setting((101 + n % 90) as u16, (n % 13) as u64);
+    let singles = (0..MOST_GROUPS - 4 * BUFFER_ENTRIES).map(|n| vec![entry(n)]);
+    std::iter::once(touching(1, GROUP_ENTRIES as u16, 7)).chain(singles).collect()
 }
 
 /// 98,280 changes in groups of so many entries, on 180 valves; each third valve

@@ -185,6 +185,11 @@ pub fn effect(medium: &[u8], first: usize, second: usize) -> Result<Vec<Entry>, 
     Ok(cells.used().expect("at most 192 cells").map(entry).collect())
 }
 
+/// The groups that mattered, into a lent list; their number is handed back.
+pub fn mattered_into(medium: &[u8], groups: &mut [u32]) -> Result<usize, Refused> {
+    Ok(valve_journal::mattered(medium, groups)?)
+}
+
 /// Opening of a valve: its word.
 pub fn open(medium: &[u8], state: &VjState, valve: u16) -> Result<u64, Refused> {
     Ok(valve_journal::opening(medium, state, valve)?)

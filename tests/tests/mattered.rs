@@ -5,17 +5,18 @@ mod common;
 use common::{numbered, refused};
 use journal_tests::effects::of_groups;
 use journal_tests::logs::{
-    self, large, medium_of, removal, setting, small, some_log, Log, Pages, Shape,
+    self, each_medium, large, medium_of, removal, setting, small, some_log, Log, Pages, Shape,
 };
 use journal_tests::mattered::{by_definition, mattered_into, of_changes, without};
+use journal_tests::proved;
 use journal_tests::random::{refused_medium, ways, Random};
 use journal_tests::reader::*;
 
 /// The call of one implementation.
 type Call = fn(&[u8], &mut [u32]) -> Result<usize, Refused>;
 
-/// Those that are there.
-const CALLS: [Call; 1] = [mattered_into];
+/// The call of both.
+const CALLS: [Call; 2] = [mattered_into, proved::mattered_into];
 
 /// The groups that mattered in a log, in one pass.
 fn of_log(log: &[Vec<Entry>]) -> Vec<u32> {
@@ -184,6 +185,32 @@ fn one_large_log_by_its_making() {
     let expected: Vec<u32> = (last..last + 190).filter(|group| group % 2 == 1).collect();
     assert_eq!(expected.len(), 95);
     check(made.name, &made.medium, &expected);
+}
+
+/// On media of every kind, in lists that are too short, exact and longer; short
+/// logs by the definition.
+#[test]
+fn both_answer_the_same_on_all_media() {
+    let (mut numbers, mut by_words) = ([0; 26], 0);
+    each_medium(141, 400, |name, medium| {
+        let log = replay(medium).map_or(vec![], |replay| replay.log());
+        let mattered = of_log(&log);
+        if log.len() <= 40 {
+            assert_eq!(mattered, by_definition(&log), "{name}");
+            by_words += 1;
+        }
+        let n = mattered.len();
+        for places in [0, n / 2, n.saturating_sub(1), n, n + 1, n + 70] {
+            let [second, proved] = CALLS.map(|call| read_out(call, medium, places));
+            assert!(second == proved, "{name}, {places} places: {:?}, {:?}", second.0, proved.0);
+            numbers[proved.0.map_or_else(|refused| refused.0.into(), |_| 0)] += 1;
+        }
+    });
+    println!("answers by number: {numbers:?}, by the definition {by_words}");
+    for number in [0, 1, 2, 3, 4, 5, 6, 25] {
+        assert!(numbers[number] > 5, "{number}: {} times", numbers[number]);
+    }
+    assert!(by_words > 500, "{by_words}");
 }
 
 /// Recovery's refusals come before 25, and no list is written to.

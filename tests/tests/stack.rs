@@ -61,14 +61,15 @@ impl Table {
         *deepest = taken.max(*deepest);
     }
 
-    /// Recovery and the log of a medium, whole and change by change, and the whole
-    /// log's effect.
+    /// Recovery and the log of a medium, whole and change by change, the whole log's
+    /// effect, and the groups that mattered.
     fn recovery(&mut self, medium: &[u8]) {
         let mut desk = Desk::new(medium, &Proved::of(&State::at_format(256)), 0);
         let most = reader::most_changes(medium);
         (desk.keys, desk.words) = (vec![0; most], vec![0; most]);
         self.note("vj_recover", &desk, 0);
         self.note("vj_log", &desk, 0);
+        self.note("vj_mattered", &desk, 0);
         self.note("vj_reader", &desk, 0);
         // From the first page, one in the middle and the last.
         for page in [0, 2048, 4095] {

@@ -5,3 +5,4 @@ pub mod Wanted
 pub mod Word
 pub mod Reader
 pub mod SinceCommit
+pub mod Mattered

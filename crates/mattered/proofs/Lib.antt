@@ -1,0 +1,6 @@
+pub mod Laws
+pub mod Sorted
+pub mod Meant
+pub mod Bounds
+pub mod Log
+pub mod Lists

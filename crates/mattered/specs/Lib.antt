@@ -1,0 +1,2 @@
+pub mod Mattered
+pub mod Listed
