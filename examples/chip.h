@@ -1,5 +1,5 @@
 /* What the C examples share. A chip of 4 blocks in memory, with the driver that they hand to valve_journal_run.h: a real one talks to the chip instead,
- * and answers 0 only once the chip holds what was asked. It prints each step. And `expect`, which ends an example. */
+ * and answers 0 only once the chip holds what was asked. It prints each step, unless it is told not to, and counts them. And `expect`, which ends an example. */
 #ifndef CHIP_H
 #define CHIP_H
 
@@ -8,6 +8,8 @@
 #include "valve_journal_run.h"
 
 static uint8_t chip[4 * VJ_BLOCK_BYTES];
+static int chip_prints = 1; /* each step */
+static size_t chip_pages, chip_blocks; /* so many were programmed, and so many erased */
 static int chip_cut_in = -1; /* after so many more steps its power fails inside one, half done; never while this is below 0 */
 
 static int chip_fails(void)
@@ -27,7 +29,9 @@ static int chip_program(void *user, size_t page, const uint8_t *bytes)
     int failed = chip_fails();
     (void)user;
     memcpy(chip + VJ_PAGE_BYTES * page, bytes, failed ? VJ_PAGE_BYTES / 2 : VJ_PAGE_BYTES);
-    printf("program page %zu%s\n", page, failed ? ": failed" : "");
+    chip_pages++;
+    if (chip_prints)
+        printf("program page %zu%s\n", page, failed ? ": failed" : "");
     return failed;
 }
 
@@ -36,7 +40,9 @@ static int chip_erase(void *user, size_t block)
     int failed = chip_fails();
     (void)user;
     memset(chip + VJ_BLOCK_BYTES * block, 0xFF, failed ? VJ_BLOCK_BYTES / 2 : VJ_BLOCK_BYTES);
-    printf("erase block %zu%s\n", block, failed ? ": failed" : "");
+    chip_blocks++;
+    if (chip_prints)
+        printf("erase block %zu%s\n", block, failed ? ": failed" : "");
     return failed;
 }
 

@@ -40,6 +40,9 @@
 
 #include <stddef.h>
 #include <stdint.h>
+#ifndef __cplusplus
+#include <stdbool.h>
+#endif
 
 #ifdef __cplusplus
 extern "C" {
@@ -136,11 +139,12 @@ enum {
     VJ_STACK_PAGE = 1024,
     VJ_STACK_OPENING = 11264,
     VJ_STACK_SETTINGS = 17408,
-    VJ_STACK_PICK = 11264,
+    VJ_STACK_PICK = 13312,
     VJ_STACK_SURVEY = 15360,
     VJ_STACK_AVAILABLE = 9216,
     VJ_STACK_WORD = 21504,
     VJ_STACK_WANTED = 25600,
+    VJ_STACK_NEXT = 27648,
     VJ_STACK_FORMAT = 5120,
     VJ_STACK_APPEND = 37888,
     VJ_STACK_COMMIT = 27648,
@@ -278,6 +282,13 @@ typedef struct VjWanted {
     VjCells group;  /* then the group, as vj_append takes it: keys and vals, each `count` long, at most 96; else its count is 0 */
 } VjWanted;
 
+/* What vj_next answers. */
+typedef struct VjNext {
+    uint8_t number;    /* 0, or the number of the refusal */
+    uint8_t operation; /* VJ_APPEND, VJ_COMMIT or VJ_COLLECT, the call to make next; on a refusal 0 */
+    size_t block;      /* the block of a collection, from 0; else 0 */
+} VjNext;
+
 /* What vj_format, vj_append, vj_commit, vj_collect and vj_flush answer. */
 typedef struct VjBegun {
     uint8_t number; /* 0, or the number of the refusal */
@@ -338,7 +349,7 @@ VjPart vj_page(const uint8_t *medium, size_t medium_length, size_t p);
 /* The calls from here on, vj_format aside, take a state with its medium. A state of any content may be given: one that does not fit the
  * medium, or whose operation names none, is refused with 7. */
 
-/* The next seven calls read a state against its medium; both stay as they are. All but vj_word leave the write buffer aside. */
+/* The next eight calls read a state against its medium; both stay as they are. All but vj_word and vj_next leave the write buffer aside. */
 
 /* The word of a valve on the medium. Refuses 1, 7, 18 and, where the valve's address lacks its entry, 6, in this order. */
 VjWord vj_opening(const uint8_t *medium, size_t medium_length, VjState state, uint16_t valve);
@@ -375,6 +386,22 @@ VjWordPlace vj_word(const uint8_t *medium, size_t medium_length, VjState state, 
  * before anything else changes a valve. */
 VjWanted vj_wanted(const uint8_t *medium, size_t medium_length, VjState state, const VjRecord *records, size_t records_length);
 
+/* Names the next operation of a box that keeps itself able to write; it begins nothing. The group, given as to vj_append, is the one that the caller
+ * would append, and `read` says whether the log has been read, so that a commit may empty it. Named is
+ *   - the append of the group, unless vj_append would answer 13;
+ *   - else a commit, where a whole page is newer than the base and the log has been read;
+ *   - else the collection of the block that vj_pick names.
+ * The caller makes the call named and its steps, and asks again, until the append is named. Refuses as the call that it names, so that a call named is
+ * accepted, and 15 where a collection is due and vj_pick names no block. 24 comes before all that: a buffer that holds a group is flushed first.
+ *
+ * Where vj_append answers 13 with VJ_RESERVE_PAGES pages or more available, nothing pending, the buffer empty, 16 serials left and the log read, at
+ * most one commit and one collection are named, and then the append of that same group, whatever the number of blocks. A finished append leaves as
+ * many pages. Fewer can be available after a power cut, or after commits that were not named. Then the commit that is due may answer 13, and goes on
+ * answering it, though a block could be collected without any page: say `read` false, and the collection is named in its place; with the pages that
+ * it frees, say true again. Where no block can be collected either, the journal can only be read or formatted. */
+VjNext vj_next(const uint8_t *medium, size_t medium_length, VjState state, const uint8_t *buffer, size_t buffer_length, const uint16_t *keys,
+    size_t keys_length, const uint64_t *words, size_t words_length, bool read);
+
 /* The next five calls begin an operation. The medium stays as it is: vj_step does the work. */
 
 /* Begins formatting. It takes no state, so it drops whatever was pending. A cut inside it promises nothing: it is begun again. Refuses 1. */
@@ -387,8 +414,7 @@ VjBegun vj_append(const uint8_t *medium, size_t medium_length, VjState state, co
     const uint16_t *keys, size_t keys_length, const uint64_t *words, size_t words_length);
 
 /* Begins a commit: a new base of the valves that are set. A finished commit empties the log, also of changes that nobody has read: vj_log comes
- * first. Where vj_append or vj_buffer answers 13, pages come free by a commit, then vj_pick and vj_collect of the block that it names, more than
- * once if need be. Refuses 1, 7, 8, 24, 13 and 14, in this order. */
+ * first. Where vj_append or vj_buffer answers 13, vj_next names the commit or the collection that makes pages free. Refuses 1, 7, 8, 24, 13 and 14, in this order. */
 VjBegun vj_commit(const uint8_t *medium, size_t medium_length, VjState state, const uint8_t *buffer, size_t buffer_length);
 
 /* Begins the collection of a block, counted from 0: its live entries are moved, then it is erased. Refuses 1, 7, 8, 24, 15, 6 where a live
@@ -451,6 +477,7 @@ VJ_SIZE(VjSurvey, 1538) VJ_FIELD(VjSurvey, number, 0, 1) VJ_FIELD(VjSurvey, coun
 VJ_SIZE(VjPages, 16) VJ_FIELD(VjPages, number, 0, 1) VJ_FIELD(VjPages, pages, 8, 8)
 VJ_SIZE(VjRecord, 16) VJ_FIELD(VjRecord, valve, 0, 2) VJ_FIELD(VjRecord, word, 8, 8)
 VJ_SIZE(VjWanted, 1936) VJ_FIELD(VjWanted, number, 0, 1) VJ_FIELD(VjWanted, found, 1, 1) VJ_FIELD(VjWanted, group, 8, 1928)
+VJ_SIZE(VjNext, 16) VJ_FIELD(VjNext, number, 0, 1) VJ_FIELD(VjNext, operation, 1, 1) VJ_FIELD(VjNext, block, 8, 8)
 VJ_SIZE(VjBegun, 4184) VJ_FIELD(VjBegun, number, 0, 1) VJ_FIELD(VjBegun, state, 8, 4176)
 VJ_SIZE(VjStepped, 4192) VJ_FIELD(VjStepped, number, 0, 1) VJ_FIELD(VjStepped, touched, 1, 1) VJ_FIELD(VjStepped, finished, 2, 1)
     VJ_FIELD(VjStepped, at, 8, 8) VJ_FIELD(VjStepped, state, 16, 4176)

@@ -358,6 +358,29 @@ pub fn wanted(medium: &[u8], state: &State, records: &[Record]) -> Result<Option
     answer(r.number, (r.found == 1).then_some(r.group))
 }
 
+/// The operation that `next` names: an append of the group offered, a commit, or the collection of a block.
+#[derive(Clone, Copy, PartialEq, Eq, Debug)]
+pub enum Operation {
+    Append,
+    Commit,
+    Collect(usize),
+}
+
+/// Names the next operation of a box that keeps itself able to write, where the group of these keys and words is to be appended; `read` is whether
+/// the log has been read. It begins nothing: make the call named and its steps, and ask again, until the append is named.
+pub fn next(medium: &[u8], state: &State, buffer: &[u8], keys: &[u16], words: &[u64], read: bool) -> Result<Operation, Refusal> {
+    let (m, b, k, w) = (medium.as_ptr(), buffer.as_ptr(), keys.as_ptr(), words.as_ptr());
+    let (ml, bl, kl, wl) = (medium.len(), buffer.len(), keys.len(), words.len());
+    let r = unsafe { vj_next(m, ml, *state, b, bl, k, kl, w, wl, read) };
+    match (r.number, r.operation, r.block) {
+        (0, APPEND, 0) => Ok(Operation::Append),
+        (0, COMMIT, 0) => Ok(Operation::Commit),
+        (0, COLLECT, block) => Ok(Operation::Collect(block)),
+        (number, 0, 0) => Err(Refusal::of(number)),
+        _ => unreachable!("an operation, or a refusal and nothing else"),
+    }
+}
+
 /// Begins formatting. It takes no state, so it drops whatever was pending. A cut inside it promises nothing: formatting is begun again.
 pub fn format(medium: &[u8]) -> Result<State, Refusal> {
     let r = unsafe { vj_format(medium.as_ptr(), medium.len()) };
@@ -501,6 +524,13 @@ struct VjWanted {
 }
 
 #[repr(C)]
+struct VjNext {
+    number: u8,
+    operation: u8,
+    block: usize,
+}
+
+#[repr(C)]
 struct VjBegun {
     number: u8,
     state: State,
@@ -520,7 +550,7 @@ const _: () = assert!(size_of::<Cells>() == 1928 && size_of::<Head>() == 40 && s
 const _: () = assert!(size_of::<VjRecovered>() == 4184 && size_of::<VjCount>() == 16 && size_of::<VjPart>() == 16 && size_of::<VjWord>() == 16);
 const _: () = assert!(size_of::<VjWordPlace>() == 24 && size_of::<VjPick>() == 16 && size_of::<VjSurvey>() == 1538 && size_of::<VjPages>() == 16);
 const _: () = assert!(size_of::<Place>() == 8 && size_of::<VjChange>() == 24);
-const _: () = assert!(size_of::<VjWanted>() == 1936 && size_of::<VjEffect>() == 1936 && size_of::<VjBegun>() == 4184 && size_of::<VjStepped>() == 4192);
+const _: () = assert!(size_of::<VjWanted>() == 1936 && size_of::<VjEffect>() == 1936 && size_of::<VjNext>() == 16 && size_of::<VjBegun>() == 4184 && size_of::<VjStepped>() == 4192);
 
 // The library's calls. A pointer and the length after it are those of one slice, and what a call writes to is lent to it alone; then each call is
 // safe for every value of its arguments. The functions above keep to that.
@@ -541,6 +571,7 @@ extern "C" {
     fn vj_available(m: *const u8, ml: usize, state: State) -> VjPages;
     fn vj_word(m: *const u8, ml: usize, state: State, b: *const u8, bl: usize, valve: u16) -> VjWordPlace;
     fn vj_wanted(m: *const u8, ml: usize, state: State, records: *const Record, rl: usize) -> VjWanted;
+    fn vj_next(m: *const u8, ml: usize, state: State, b: *const u8, bl: usize, keys: *const u16, kl: usize, words: *const u64, wl: usize, read: bool) -> VjNext;
     fn vj_format(m: *const u8, ml: usize) -> VjBegun;
     fn vj_append(m: *const u8, ml: usize, state: State, b: *const u8, bl: usize, keys: *const u16, kl: usize, words: *const u64, wl: usize) -> VjBegun;
     fn vj_commit(m: *const u8, ml: usize, state: State, b: *const u8, bl: usize) -> VjBegun;

@@ -5,6 +5,7 @@
 //!     cargo bench --offline --manifest-path tests/Cargo.toml
 
 use journal_tests::calls::{Calls, Proved, Second, EMPTY};
+use journal_tests::dispatcher::{next_operation, Operation};
 use journal_tests::effects::{self, Effect};
 use journal_tests::grown::shuffle_blocks;
 use journal_tests::logs;
@@ -27,6 +28,9 @@ struct Lent<C: Calls> {
     words: Vec<u64>,
     groups: Vec<u32>,
 }
+
+/// Keys and words of a group.
+type Lists<'a> = (&'a [u16], &'a [u64]);
 
 // ---------------------------------------------------------------------------
 // What is timed
@@ -61,6 +65,18 @@ fn mattered<C: Calls>(
     call: impl Fn(&[u8], &mut [u32]) -> Result<usize, Refused>,
 ) -> impl Fn(&mut Lent<C>) {
     move |lent| assert!(black_box(call(&lent.medium, &mut lent.groups)).is_ok())
+}
+
+/// What comes next, by the call of one of both, where a group of 24 is offered and
+/// the log has been read.
+fn next<C: Calls>(
+    call: impl Fn(&[u8], &C::State, &[u8], Lists, bool) -> Result<Operation, Refused>,
+) -> impl Fn(&mut Lent<C>) {
+    move |lent| {
+        let (keys, words) = some_group::<24>(0);
+        let named = call(&lent.medium, &lent.state, &EMPTY, (&keys, &words), true);
+        assert!(black_box(named).is_ok());
+    }
 }
 
 /// A morning: recovery, the log into three lists, a commit to its end.
@@ -322,6 +338,10 @@ fn main() {
         compare!(&format!("256 blocks, pick and collect, {name}"), &journal, collection);
     }
     compare!("256 blocks, groups of 24 until 13", &formatted(256), appends, 24);
+    for (name, journal) in [("almost full", almost_full(256)), ("full", full(256))] {
+        let (proved, second) = (next(proved::next_operation), next(next_operation));
+        compare(&format!("256 blocks, what comes next, {name}"), &journal, proved, second);
+    }
     largest_logs();
 }
 
@@ -332,9 +352,9 @@ fn largest_logs() {
         let journal = recovered(made.medium);
         compare!(&format!("{name}, recovery"), &journal, recovery);
         compare_log(&name, &journal);
-        for (what, span) in [("the effect of all", (0, n)), ("of the second half", (n / 2, n))] {
+        for (what, span) in [("all groups", (0, n)), ("the second half", (n / 2, n))] {
             let (proved, second) = (effect(proved::effect, span), effect(effects::effect, span));
-            compare(&format!("{name}, {what}"), &journal, proved, second);
+            compare(&format!("{name}, the effect of {what}"), &journal, proved, second);
         }
         let (proved, second) = (mattered(proved::mattered_into), mattered(mattered_into));
         compare(&format!("{name}, which groups mattered"), &journal, proved, second);

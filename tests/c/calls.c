@@ -15,7 +15,7 @@ typedef struct Lent {
     size_t count;
     const VjRecord *records;
     size_t records_count;
-    size_t number; /* the page, the valve, the block, or the end of a span of the log */
+    size_t number; /* the page, the valve, the block, the end of a span of the log, or whether the log has been read */
 } Lent;
 
 /* A call with its name and the most stack that the header says it takes. */
@@ -55,6 +55,7 @@ MAKE(VjSurvey, survey, MEDIUM, *lent->state)
 MAKE(VjPages, available, MEDIUM, *lent->state)
 MAKE(VjWordPlace, word, MEDIUM, *lent->state, BUFFER, (uint16_t)lent->number)
 MAKE(VjWanted, wanted, MEDIUM, *lent->state, lent->records, lent->records_count)
+MAKE(VjNext, next, MEDIUM, *lent->state, BUFFER, GROUP, lent->number != 0)
 MAKE(VjBegun, format, MEDIUM)
 MAKE(VjBegun, append, MEDIUM, *lent->state, BUFFER, GROUP)
 MAKE(VjBegun, commit, MEDIUM, *lent->state, BUFFER)
@@ -78,6 +79,7 @@ const Call test_calls[] = {
     {"vj_available", VJ_STACK_AVAILABLE, make_available},
     {"vj_word", VJ_STACK_WORD, make_word},
     {"vj_wanted", VJ_STACK_WANTED, make_wanted},
+    {"vj_next", VJ_STACK_NEXT, make_next},
     {"vj_format", VJ_STACK_FORMAT, make_format},
     {"vj_append", VJ_STACK_APPEND, make_append},
     {"vj_commit", VJ_STACK_COMMIT, make_commit},

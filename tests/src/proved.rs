@@ -10,6 +10,7 @@ pub use crate::valve_journal::{
     COMMIT, FLUSH, FORMAT, IDLE,
 };
 
+use crate::dispatcher::Operation;
 use crate::reader::{
     self, Change, Entry, Pending, Place, Record, Refused, State, WordAt, MAX_BLOCKS,
 };
@@ -245,6 +246,21 @@ pub fn survey(medium: &[u8], state: &VjState) -> Result<[[u32; 3]; MAX_BLOCKS], 
 /// Available pages.
 pub fn count_available(medium: &[u8], state: &VjState) -> Result<usize, Refused> {
     Ok(valve_journal::available(medium, state)?)
+}
+
+/// The operation that comes next.
+pub fn next_operation(
+    medium: &[u8],
+    state: &VjState,
+    buffer: &[u8],
+    (keys, words): (&[u16], &[u64]),
+    log_is_read: bool,
+) -> Result<Operation, Refused> {
+    Ok(match valve_journal::next(medium, state, buffer, keys, words, log_is_read)? {
+        valve_journal::Operation::Append => Operation::Append,
+        valve_journal::Operation::Commit => Operation::Commit,
+        valve_journal::Operation::Collect(block) => Operation::Collect(block),
+    })
 }
 
 /// Begins formatting.

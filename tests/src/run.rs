@@ -107,6 +107,13 @@ extern "C" {
     fn test_run_open(journal: *mut VjJournal) -> u8;
     fn test_run_format(journal: *mut VjJournal) -> u8;
     fn test_run_append(journal: *mut VjJournal, keys: *const u16, words: *const u64, count: usize) -> u8;
+    fn test_run_write(
+        journal: *mut VjJournal,
+        keys: *const u16,
+        words: *const u64,
+        count: usize,
+        read: bool,
+    ) -> u8;
     fn test_run_commit(journal: *mut VjJournal) -> u8;
     fn test_run_collect(journal: *mut VjJournal, block: u64) -> u8;
     fn test_run_buffer(journal: *mut VjJournal, keys: *const u16, words: *const u64, count: usize) -> u8;
@@ -201,6 +208,12 @@ impl Journal {
     pub fn append(&mut self, keys: &[u16], words: &[u64]) -> u8 {
         assert_eq!(keys.len(), words.len());
         unsafe { test_run_append(self.lent(), keys.as_ptr(), words.as_ptr(), keys.len()) }
+    }
+
+    /// With the housekeeping that it takes; `read`: the log has been read.
+    pub fn write(&mut self, keys: &[u16], words: &[u64], read: bool) -> u8 {
+        assert_eq!(keys.len(), words.len());
+        unsafe { test_run_write(self.lent(), keys.as_ptr(), words.as_ptr(), keys.len(), read) }
     }
 
     pub fn commit(&mut self) -> u8 {

@@ -282,3 +282,95 @@ fn a_refused_step_drops_the_state() {
     assert_eq!(journal.state().meaning(), Some(state));
     assert_eq!(journal.append(&keys, &words), 0);
 }
+
+/// A group of 1 to 96 entries of any of 192 valves.
+fn some_group(random: &mut Random) -> (Vec<u16>, Vec<u64>) {
+    let count = random.from_to(1, 96);
+    let valve = |random: &mut Random| random.from_to(1, 192) as u16;
+    (0..count).map(|_| (valve(random), random.from_to(0, 1 << 40) as u64)).unzip()
+}
+
+/// How many changes the log has.
+fn log_length(journal: &Journal) -> usize {
+    let replay = reader::replay(journal.medium()).expect("recovery");
+    replay.log().iter().map(Vec::len).sum()
+}
+
+/// Writes a group; where there is no room without it the log is read, and its
+/// length handed back.
+fn write(journal: &mut Journal, keys: &[u16], words: &[u64]) -> Option<usize> {
+    match journal.write(keys, words, false) {
+        0 => None,
+        13 | 15 => {
+            let changes = log_length(journal);
+            assert_eq!(journal.write(keys, words, true), 0);
+            Some(changes)
+        }
+        number => panic!("refused {number}"),
+    }
+}
+
+/// A box keeps itself able to write: thousands of groups go to few blocks, every
+/// change is read once, and the valves open as they were set last.
+#[test]
+fn a_box_keeps_itself_able_to_write() {
+    for blocks in [4, 5, 16] {
+        let mut random = Random::new(blocks as u64);
+        let mut journal = Journal::new(&blank(blocks));
+        assert_eq!(journal.format(), 0);
+        let (mut settings, mut made, mut filed) = (BTreeMap::new(), 0, 0);
+        for _ in 0..3000 {
+            let (keys, words) = some_group(&mut random);
+            filed += write(&mut journal, &keys, &words).unwrap_or(0);
+            made += keys.len();
+            settings.extend(keys.into_iter().zip(words));
+        }
+        assert_eq!(filed + log_length(&journal), made);
+        for (&valve, &word) in &settings {
+            assert_eq!(proved::open(journal.medium(), journal.state(), valve), Ok(word));
+        }
+    }
+}
+
+/// A driver that fails inside the housekeeping, or inside the append: the journal
+/// is opened again, and has the group whole or not at all. Where it has not, the
+/// group is written then; where no page is left for a commit, saying 'not read'
+/// gets out, unless no block can be collected.
+#[test]
+fn a_write_that_fails() {
+    let (mut random, mut numbers, mut got_out) = (Random::new(4), [0; 256], 0);
+    for fails in (0..40).cycle().take(400) {
+        let mut journal = Journal::new(&blank(4));
+        assert_eq!(journal.format(), 0);
+        let mut last = 0;
+        while journal.append(&[5, 6], &[last, last]) == 0 {
+            last += 1;
+        }
+        let group: (&[u16], &[u64]) = (&[5, 6], &[last, last]);
+        journal.chip.fails = Some((fails, cut_mask(&mut random)));
+        let number = journal.write(group.0, group.1, true);
+        journal.chip.fails = None;
+        if number == FAILED {
+            assert_eq!(journal.write(group.0, group.1, true), NOT_OPEN);
+            assert_eq!(journal.open(), 0);
+            let openings = [5, 6].map(|v| proved::open(journal.medium(), journal.state(), v));
+            assert_eq!(openings[0], openings[1]);
+            if openings[0] == Ok(last) {
+                continue;
+            }
+            assert_eq!(openings[0], Ok(last - 1));
+            let stuck = journal.write(group.0, group.1, true);
+            if stuck != 0 {
+                assert_eq!(stuck, 13);
+                journal.write(group.0, group.1, false);
+                let number = journal.write(group.0, group.1, true);
+                assert!([0, 13].contains(&number));
+                got_out += usize::from(number == 0);
+                continue;
+            }
+        }
+        assert_eq!(proved::open(journal.medium(), journal.state(), 6), Ok(last));
+        numbers[usize::from(number)] += 1;
+    }
+    assert!(numbers[0] > 0 && numbers[usize::from(FAILED)] > 0 && got_out > 0);
+}

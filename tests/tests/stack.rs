@@ -69,8 +69,8 @@ impl Table {
         (desk.keys, desk.words) = (vec![0; most], vec![0; most]);
         self.note("vj_recover", &desk, 0);
         self.note("vj_log", &desk, 0);
-        self.note("vj_mattered", &desk, 0);
         self.note("vj_reader", &desk, 0);
+        self.note("vj_mattered", &desk, 0);
         // From the first page, one in the middle and the last.
         for page in [0, 2048, 4095] {
             self.note("vj_change", &desk, page);
@@ -88,6 +88,9 @@ impl Table {
         for name in ["vj_pick", "vj_survey", "vj_available", "vj_format", "vj_append", "vj_commit"]
         {
             self.note(name, &desk, 0);
+        }
+        for read in [0, 1] {
+            self.note("vj_next", &desk, read);
         }
         for block in (0..256).step_by(15) {
             self.note("vj_collect", &desk, block);
@@ -238,6 +241,14 @@ fn the_deepest_stack_of_each_call() {
         table.steps(&medium, &flush, &held);
     }
     assert_eq!(medium.len(), 256 * BLOCK_BYTES);
+    // Journals that are full, where a commit or a collection is named.
+    for how in [How::Full, How::Round] {
+        let life = grown(256, how);
+        let state = Proved::of(life.state.as_ref().expect("a state"));
+        for read in [0, 1] {
+            table.note("vj_next", &Desk::new(&life.medium, &state, 96), read);
+        }
+    }
     print(&table);
     for call in stack::calls() {
         check(call, table.0[call.name()]);
@@ -282,6 +293,7 @@ fn the_deepest_stack_of_whole_operations() {
     let block = block.expect("a reading").expect("a block");
     note(&mut || journal.collect(block), 0);
     note(&mut || journal.append(&keys, &words), 0);
+    note(&mut || journal.write(&keys, &words, true), 0);
     note(&mut || journal.buffer(&keys[..16], &words[..16]), 0);
     note(&mut || journal.flush(), 0);
     note(&mut || journal.commit(), 0);

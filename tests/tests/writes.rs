@@ -16,6 +16,7 @@ use common::{
     touched, valves, Given, EMPTY,
 };
 use journal_tests::calls::{Calls, Proved, Second};
+use journal_tests::dispatcher::next_operation;
 use journal_tests::grown::{some_blocks, BLOCK_COUNTS};
 use journal_tests::player::{Action, Answer, Outcome, Player, Reading};
 use journal_tests::proved::{self, VjCells, VjState};
@@ -604,7 +605,8 @@ impl Answers {
         }
     }
 
-    /// Every call that begins something and takes a state.
+    /// Every call that begins something and takes a state, and the one that names
+    /// what to begin.
     fn begin(&mut self, random: &mut Random, lent: &Lent) -> [Option<(Lent, ())>; 4] {
         let (keys, words) = some_lists(random);
         let (lent_keys, lent_words) = (keys.clone(), words.clone());
@@ -636,7 +638,22 @@ impl Answers {
             ),
         ];
         assert!(lent_keys == keys && lent_words == words, "the lists stay");
+        self.next(lent, (&keys, &words));
+        self.next(lent, (&[5], &[1000]));
+        self.next(lent, (&[5; 96], &[1000; 96]));
         begun
+    }
+
+    /// What comes next for a group, the log being read or not.
+    fn next(&mut self, lent: &Lent, group: (&[u16], &[u64])) {
+        for read in [false, true] {
+            self.call(
+                "next",
+                lent,
+                |m, s, b| proved::next_operation(m, s, b, group, read),
+                |m, s, b| next_operation(m, s, b, group, read),
+            );
+        }
     }
 
     /// Groups put into the buffer, mostly small ones, until one is refused.
@@ -933,11 +950,12 @@ fn any_bytes(random: &mut Random) -> Vec<u8> {
 }
 
 /// The numbers that each call may answer, 0 being no refusal.
-const NUMBERS: [(&str, &[u8]); 11] = [
+const NUMBERS: [(&str, &[u8]); 12] = [
     ("format", &[0, 1]),
     ("append", &[0, 1, 7, 8, 24, 10, 11, 12, 13, 14]),
     ("commit", &[0, 1, 7, 8, 24, 13, 14]),
     ("collect", &[0, 1, 7, 8, 24, 15, 6, 13, 14]),
+    ("next", &[0, 1, 7, 8, 24, 10, 11, 12, 13, 14, 15, 6]),
     ("buffer", &[0, 1, 7, 8, 10, 11, 12, 23, 13, 14]),
     ("flush", &[0, 1, 7, 8, 10, 11, 12, 13, 14]),
     ("step", &[0, 1, 7, 9, 6, 14, 16]),

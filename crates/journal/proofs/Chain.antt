@@ -368,7 +368,8 @@ module _ (w : World) (h : History) (R : reached.Reached w h) (S : Shows (w .medi
       state-is : (r : Recovered) → Recovers (w .medium) r → meaning (r .state) ≡ S .state
       state-is r p = found-state (w .medium) (S .log) (S .state) (S .accepts) r p
 
-      list-is : (r : Recovered) → Recovers (w .medium) r → (lists : List (List ℕ)) → readSettings (length (w .medium)) (views (w .medium)) (meaning (r .state)) lists ≡ filedSettings lists (h .settings)
+      list-is : (r : Recovered) → Recovers (w .medium) r → (lists : List (List ℕ))
+          → readSettings (length (w .medium)) (views (w .medium)) (meaning (r .state)) lists ≡ filedSettings lists (h .settings)
       list-is r p lists = ap (λ (x : Held). readSettings (length (w .medium)) (views (w .medium)) x lists) (state-is r p) ∙ list-shown lists
 
 -- Point 3, of the code.

@@ -6,3 +6,5 @@ pub mod Word
 pub mod Reader
 pub mod SinceCommit
 pub mod Mattered
+pub mod Housekeeping
+pub mod Reaching

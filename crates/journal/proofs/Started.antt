@@ -98,7 +98,7 @@ first-all ps =
     ext-getD 0 (first 0 (length ps) ps) ps n (λ i h. get-first {A = ℕ} 0 (length ps) i ps (omega (arith, n)))
 
 -- what is pending, in a struct's numbers and lists
-unfoldable operationOf : Pending → ℕ
+unfoldable pub operationOf : Pending → ℕ
 operationOf idle = 0
 operationOf (append es ps) = 1
 operationOf (commit k) = 2
@@ -107,7 +107,7 @@ operationOf (format n) = 4
 operationOf flush = 5
 operationOf unnamed = 6
 
-unfoldable progressOf : Pending → ℕ
+unfoldable pub progressOf : Pending → ℕ
 progressOf idle = 0
 progressOf (append es ps) = length ps
 progressOf (commit k) = k
@@ -116,7 +116,7 @@ progressOf (format n) = n
 progressOf flush = 0
 progressOf unnamed = 0
 
-unfoldable groupOf : Pending → List Cell
+unfoldable pub groupOf : Pending → List Cell
 groupOf idle = []
 groupOf (append es ps) = es
 groupOf (commit k) = []
@@ -125,7 +125,7 @@ groupOf (format n) = []
 groupOf flush = []
 groupOf unnamed = []
 
-unfoldable pagesOf : Pending → List ℕ
+unfoldable pub pagesOf : Pending → List ℕ
 pagesOf idle = []
 pagesOf (append es ps) = ps
 pagesOf (commit k) = []
@@ -145,7 +145,7 @@ pending-same flush = refl
 pending-same unnamed = refl
 
 -- records of erased blocks, in numbers
-unfoldable numbersOf : List Bool → List ℕ
+unfoldable pub numbersOf : List Bool → List ℕ
 numbersOf e = table (length e) (λ b. oneIf (getD e b false))
 
 records-same : (e : List Bool) (blocks : ℕ) → length e ≡ blocks → recordsOf blocks (numbersOf e) ≡ e
@@ -157,7 +157,7 @@ records-same e blocks l =
     record-is blocks (numbersOf e) b i ∙ by-cases (getD e b false) (λ q. rw (g, q)) (λ q. rw (g, q)))
 
 -- whatever a state may hold, with a record for each block, some struct holds it
-abbrev stateOf : Held → State
+abbrev pub stateOf : Held → State
 stateOf h =
     record {
       head = h .head;
@@ -169,7 +169,7 @@ stateOf h =
       erased = numbersOf (h .erased);
     }
 
-state-same : (h : Held) → length (h .erased) ≡ h .head .blocks → meaning (stateOf h) ≡ h
+pub state-same : (h : Held) → length (h .erased) ≡ h .head .blocks → meaning (stateOf h) ≡ h
 state-same h l =
     ap (λ (x : List Cell). held (h .head) x (meaning (stateOf h) .pending) (meaning (stateOf h) .erased)) (listed-cells (h .index))
     ∙ ap (λ (x : Pending). held (h .head) (h .index) x (meaning (stateOf h) .erased)) (pending-same (h .pending))
@@ -187,13 +187,13 @@ standing weak h G =
     record { is = e; weak = weak; guard = subst (Guard weak) (sym e) G }
 
 -- a step that is not refused has an answer
-record Answered (m : List ℕ) (s : State) (t : Answer Step) : Type 0 where
+pub record Answered (m : List ℕ) (s : State) (t : Answer Step) : Type 0 where
   pub answer : Stepped
   pub weak : Weak
   pub guard : Guard weak (meaning (answer .state))
   pub meets : outcome answer (mediumAfter m t) ≡ performed m s t
 
-answered : (m : List ℕ) (s : State) (t : Answer Step) (weak : Weak) → Careful weak t → ((k : ℕ) → t ≡ refused k → ⊥) → Answered m s t
+pub answered : (m : List ℕ) (s : State) (t : Answer Step) (weak : Weak) → Careful weak t → ((k : ℕ) → t ≡ refused k → ⊥) → Answered m s t
 unfolding performed done doneOf touchedBy Careful
 answered m s (refused n) weak C f = absurd (f n refl)
 answered m s (gives (Step.program p pg h finished)) weak C f =

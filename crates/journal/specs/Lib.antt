@@ -6,3 +6,4 @@ pub mod Word
 pub mod Reader
 pub mod SinceCommit
 pub mod Mattered
+pub mod Housekeeping

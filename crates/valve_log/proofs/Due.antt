@@ -81,7 +81,7 @@ programming-good v s bs h p pg s′ finished f =
 
 -- ---- a block with no page from the base on and no live node
 
-old-page : (v : List View) (base b : ℕ) → oldBlock v base b ≡ true → (q : ℕ) → 16 * b ≤ q → q < 16 * b + 16 → reachesBase base (seen v q) ≡ false
+pub old-page : (v : List View) (base b : ℕ) → oldBlock v base b ≡ true → (q : ℕ) → 16 * b ≤ q → q < 16 * b + 16 → reachesBase base (seen v q) ≡ false
 unfolding oldBlock
 old-page v base b e q lo hi =
     let i : 16 * b + (q - 16 * b) ≡ q = omega arith in

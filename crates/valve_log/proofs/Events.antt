@@ -226,7 +226,7 @@ cut-good m s b b′ h U = record { size = U .size; guarded = U .guarded; coupled
 
 -- ---- the bytes of two media
 
-same-true : (xs ys : List ℕ) → sameBytes xs ys ≡ true → xs ≡ ys
+pub same-true : (xs ys : List ℕ) → sameBytes xs ys ≡ true → xs ≡ ys
 unfolding sameBytes
 same-true [] [] e = refl
 same-true [] (y ∷ ys) e = true-false e refl
@@ -259,13 +259,13 @@ module _ (m : List ℕ) (s : Held) (bs : List ℕ) (h : History) (U : Upheld (wo
         }
 
     module _ (left : List ℕ) (c : CutProgram m p pg left) where
-      cut-seen : CutViews (views m) p 1 (views (programmed m p pg)) (views left)
+      pub cut-seen : CutViews (views m) p 1 (views (programmed m p pg)) (views left)
       cut-seen = cut-program-views m p pg left there few (U .guarded) c
 
       left-size : length left ≡ length m
       left-size = unfold CutProgram in c .size
 
-      others : (q : ℕ) → (q ≡ p → ⊥) → seen (views left) q ≡ seen (views m) q
+      pub others : (q : ℕ) → (q ≡ p → ⊥) → seen (views left) q ≡ seen (views m) q
       others q n = cut-seen .outside q (side (decLt q p))
         where
           side : Dec (q < p) → (q < p) ⊎ (p + 1 ≤ q)
@@ -273,7 +273,7 @@ module _ (m : List ℕ) (s : Held) (bs : List ℕ) (h : History) (U : Upheld (wo
           side (no k) = inr (omega arith)
 
       -- the page is not whole where a bit is not final
-      not-whole : sameBytes left (programmed m p pg) ≡ false → isWhole (seen (views left) p) ≡ false
+      pub not-whole : sameBytes left (programmed m p pg) ≡ false → isWhole (seen (views left) p) ≡ false
       not-whole e = go (seen (views left) p) refl
         where
           go : (x : View) → seen (views left) p ≡ x → isWhole x ≡ false
@@ -307,7 +307,7 @@ module _ (m : List ℕ) (s : Held) (bs : List ℕ) (h : History) (U : Upheld (wo
 
   -- a block erased
   module _ (b : ℕ) (s′ : Held) (E : Erases (views m) bs h b s′) where
-    block-there : 4096 * b + 4096 ≤ length m
+    pub block-there : 4096 * b + 4096 ≤ length m
     block-there = omega (arith, E .inside, length-views m)
 
     pub erase-cut : CutViews (views m) (16 * b) 16 (views m) (views (erased m b))

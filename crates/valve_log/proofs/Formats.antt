@@ -28,7 +28,8 @@ use Rattle.blocks.specs.Blocks.{sizeOk}
 use Rattle.nodes.specs.Nodes.{sound, words}
 use Rattle.index.specs.Index.{risingFrom, rising}
 use Rattle.state.specs.State.{idle, append, commit, collect, format, Held, held, noneErased, nowErased, isIdle}
-use Rattle.recovery.specs.Recovery.{placed, wholes, allLawful, distinct, insert, sort, goesOn, startsGroup, baseOf, reaches, from, consecutive, group, joined, begun, enter, walk, groupsOf, logOf, pagesOf, enterAll, enterPage, enterPages, Recovery, entersLog, logOfGroup}
+use Rattle.recovery.specs.Recovery.{placed, wholes, allLawful, distinct, insert, sort, goesOn, startsGroup, baseOf, reaches, from, consecutive, group}
+use Rattle.recovery.specs.Recovery.{joined, begun, enter, walk, groupsOf, logOf, pagesOf, enterAll, enterPage, enterPages, Recovery, entersLog, logOfGroup}
 use Rattle.recovery.specs.Recovery
 use Rattle.calls.specs.Calls.{zip, appendOf, commitOf, collectOf, formatting, formatOf, bufferOf, flushOf}
 use Rattle.calls.proofs.Laws.{formatState}

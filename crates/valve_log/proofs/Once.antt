@@ -20,7 +20,7 @@ use Rattle.state.proofs.Records.{now-was}
 use Rattle.step.specs.Step.{Step, erasing, programming, appendStep, commitStep, moveStep, collectStep, flushStep, due, programsDue, needsErase, erasedFirst, stepOf, mediumAfter, bufferAfter}
 use Rattle.step.proofs.Laws.{NeedsErase, needs-erase, first-cases}
 use Rattle.valve_log.specs.History.{History}
-use Rattle.valve_log.specs.Reached.{world, withState, stepDue, stepped, happen}
+use Rattle.valve_log.specs.Reached.{World, world, Reached, withState, stepDue, stepped, happen}
 use Rattle.valve_log.specs.Weak.{Weak, weakIn, ErasedOnce}
 use Rattle.valve_log.proofs.Views.{clean-same}
 use Rattle.valve_log.proofs.Due.{Good}
@@ -114,11 +114,20 @@ step-none n v s bs p q = checked-cases NoErase _ _ refused-none (λ e. rw q (due
 
 -- ---- the theorem
 
-once-at : (m : List ℕ) (o : Option Held) (bs : List ℕ) (h : History) (weak : Weak) (b : ℕ) (t : Held) → Upheld (world m o bs) h → StateReady (views m) o → Kept weak o → stepDue (world m o bs) ≡ gives (Step.erase b t false)
-    → NoErase (stepDue (stepped (world m o bs) (stepDue (world m o bs)) .after))
+-- what such an erase leaves: its block has the record, and the operation programs a page next
+record ErasedFor (m : List ℕ) (b : ℕ) (t : Held) : Type 0 where
+  has-record : needsErase (views (erased m b)) t ≡ false
+  programs : programsDue (t .index) (t .pending) ≡ true
+
+erased-for-at : (m : List ℕ) (o : Option Held) (bs : List ℕ) (h : History) (weak : Weak) (b : ℕ) (t : Held) → Upheld (world m o bs) h → StateReady (views m) o → Kept weak o
+    → stepDue (world m o bs) ≡ gives (Step.erase b t false) → ErasedFor m b t
 unfolding stepDue withState StateReady Kept
-once-at m none bs h weak b t U r K e = let z : _≡_ {A = ℕ} 0 1 = cc in absurd (omega arith)
-once-at m (some s) bs h weak b t U r K e = rw e (unfold stepped mediumAfter bufferAfter in step-none (length (erased m b)) (views (erased m b)) t bs programs goes)
+erased-for-at m none bs h weak b t U r K e = let z : _≡_ {A = ℕ} 0 1 = cc in absurd (omega arith)
+erased-for-at m (some s) bs h weak b t U r K e =
+    record {
+      has-record = rw (same, first .after, first .named) (recorded (views m) _ (unfold erasing in now-was (s .erased) (newHead (views m) (s .head)) few));
+      programs = rw (first .after) (unfold erasing in first .needs .programs);
+    }
   where
     first : First (views m) s b t
     first = unfold Unfinished in (rw e at (step-one (length m) (views m) s bs r))
@@ -129,11 +138,12 @@ once-at m (some s) bs h weak b t U r K e = rw e (unfold stepped mediumAfter buff
     few : newHead (views m) (s .head) < length (s .erased)
     few = omega (arith, K .long, first .needs .inside)
 
-    goes : needsErase (views (erased m b)) t ≡ false
-    goes = rw (same, first .after, first .named) (recorded (views m) _ (unfold erasing in now-was (s .erased) (newHead (views m) (s .head)) few))
+erased-for : (w : World) (h : History) (b : ℕ) (s : Held) → Reached w h → stepDue w ≡ gives (Step.erase b s false) → ErasedFor (w .medium) b s
+erased-for w h b s R e = erased-for-at (w .medium) (w .state) (w .buffer) h (weakIn (λ c. false) w h R) b s (reached-upheld w h R) (reached-ready w h R) (list-kept (λ c. false) w h R) e
 
-    programs : programsDue (t .index) (t .pending) ≡ true
-    programs = rw (first .after) (unfold erasing in first .needs .programs)
+-- the block of an erase that does not finish its operation needs no other
+pub erased-recorded : (w : World) (h : History) (b : ℕ) (s : Held) → Reached w h → stepDue w ≡ gives (Step.erase b s false) → needsErase (views (erased (w .medium) b)) s ≡ false
+erased-recorded w h b s R e = erased-for w h b s R e .has-record
 
 no-erase : (x : Answer Step) (c : ℕ) (t : Held) (finished : Bool) → NoErase x → x ≡ gives (Step.erase c t finished) → ⊥
 unfolding NoErase
@@ -142,5 +152,6 @@ no-erase x c t finished z e = rw e at z
 pub once : ErasedOnce
 unfolding ErasedOnce happen
 once w h b s R e c t finished =
-    no-erase _ c t finished
-    (once-at (w .medium) (w .state) (w .buffer) h (weakIn (λ c. false) w h R) b s (reached-upheld w h R) (reached-ready w h R) (list-kept (λ c. false) w h R) e)
+    let L = erased-for w h b s R e in
+    no-erase _ c t finished (rw e (unfold stepped mediumAfter bufferAfter stepDue withState in
+    step-none (length (erased (w .medium) b)) (views (erased (w .medium) b)) s (w .buffer) (L .programs) (L .has-record)))

@@ -100,6 +100,7 @@ pub recovers-again : RecoversAgain
 unfolding RecoversAgain happen
 recovers-again w = again (recover (length (w .medium)) (views (w .medium))) refl
   where
-    again : (r : Answer Recovery) → recover (length (w .medium)) (views (w .medium)) ≡ r → recovered (recovered w r .after) (recover (length (recovered w r .after .medium)) (views (recovered w r .after .medium))) .after ≡ recovered w r .after
+    again : (r : Answer Recovery) → recover (length (w .medium)) (views (w .medium)) ≡ r
+        → recovered (recovered w r .after) (recover (length (recovered w r .after .medium)) (views (recovered w r .after .medium))) .after ≡ recovered w r .after
     again (refused n) e = unfold recovered in rw e
     again (gives x) e = unfold recovered in rw e

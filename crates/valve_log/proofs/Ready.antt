@@ -27,7 +27,8 @@ use Rattle.blocks.specs.Blocks.{sizeOk, available, reachesBase, oldBlock, headW
 use Rattle.nodes.specs.Nodes.{nodeIn, wordFor, wordAt, inBlock, sound, words, live}
 use Rattle.state.specs.State.{Pending, idle, append, commit, collect, format, unnamed, Held, held, headFit, placeFit, indexFit, groupOk, basePages, doneFit, pendingFit, fit, isIdle, flush, bufferedIn}
 use Rattle.calls.specs.Calls.{serialsFor}
-use Rattle.step.specs.Step.{Step, isLast, groupPage, headAfter, addressed, appended, committed, collected, erasing, erasedFirst, programming, appendStep, commitStep, moveStep, collectStep, due, stepOf, flushed, flushStep}
+use Rattle.step.specs.Step.{Step, isLast, groupPage, headAfter, addressed, appended, committed, collected, erasing}
+use Rattle.step.specs.Step.{erasedFirst, programming, appendStep, commitStep, moveStep, collectStep, due, stepOf, flushed, flushStep}
 use Rattle.step.proofs.Laws.{first-cases}
 use Rattle.valve_log.specs.History.{History}
 use Rattle.valve_log.specs.Steady.{expected}
@@ -107,18 +108,18 @@ room-left : (h : Head) (b : ℕ) → b ≡ h .block → h .next < 16 → headWit
 unfolding headWithRoom
 room-left h b e l = rw (eq-eqb b (h .block) e, lt-ltb (h .next) 16 l)
 
-no-room : (h : Head) (b : ℕ) → (b ≡ h .block → ⊥) → headWithRoom h b ≡ false
+pub no-room : (h : Head) (b : ℕ) → (b ≡ h .block → ⊥) → headWithRoom h b ≡ false
 unfolding headWithRoom
 no-room h b n = rw (ne-eqb b (h .block) n)
 
 -- what collectible says
-record Collects (v : List View) (h : Head) (b : ℕ) : Type 0 where
-  inside : b < h .blocks
-  used : whollyClean v b ≡ false
-  closed : headWithRoom h b ≡ false
-  old : oldBlock v (h .base) b ≡ true
+pub record Collects (v : List View) (h : Head) (b : ℕ) : Type 0 where
+  pub inside : b < h .blocks
+  pub used : whollyClean v b ≡ false
+  pub closed : headWithRoom h b ≡ false
+  pub old : oldBlock v (h .base) b ≡ true
 
-collects : (v : List View) (h : Head) (b : ℕ) → collectible v h b ≡ true → Collects v h b
+pub collects : (v : List View) (h : Head) (b : ℕ) → collectible v h b ≡ true → Collects v h b
 unfolding collectible
 collects v h b c =
     record {
@@ -128,11 +129,11 @@ collects v h b c =
       old = every-at 3 _ c;
     }
 
-due-outside : (v : List View) (h : Head) (b p : ℕ) → Which v h p → collectible v h b ≡ true → p / 16 ≡ b → ⊥
+pub due-outside : (v : List View) (h : Head) (b p : ℕ) → Which v h p → collectible v h b ≡ true → p / 16 ≡ b → ⊥
 due-outside v h b p (in-head l e) c q = let i : b ≡ h .block = omega arith in true-false (room-left h b i l) (collects v h b c .closed)
 due-outside v h b p (new-head x l e i o w) c q = let z : x ≡ b = omega arith in true-false (rw z at w) (collects v h b c .used)
 
-old-elsewhere : (v : List View) (p b base : ℕ) (x : View) → (p / 16 ≡ b → ⊥) → oldBlock (set v p x) base b ≡ oldBlock v base b
+pub old-elsewhere : (v : List View) (p b base : ℕ) (x : View) → (p / 16 ≡ b → ⊥) → oldBlock (set v p x) base b ≡ oldBlock v base b
 unfolding oldBlock
 old-elsewhere v p b base x n =
     below-same 16 (λ i. not (reachesBase base (seen (set v p x) (16 * b + i)))) (λ i. not (reachesBase base (seen v (16 * b + i))))
@@ -205,11 +206,13 @@ head-after-serial : (h : Head) (p base : ℕ) → headAfter h p base .serial ≡
 unfolding headAfter
 head-after-serial h p base = refl
 
-collected-is : (s : Held) (b : ℕ) (moves : List Place) (p : ℕ) → collected s b moves p ≡ held (headAfter (s .head) p (s .head .base)) (assignAll (s .index) (addressed moves (p ∷ []))) (collect b) (s .erased)
+collected-is : (s : Held) (b : ℕ) (moves : List Place) (p : ℕ)
+    → collected s b moves p ≡ held (headAfter (s .head) p (s .head .base)) (assignAll (s .index) (addressed moves (p ∷ []))) (collect b) (s .erased)
 unfolding collected
 collected-is s b moves p = refl
 
-appended-more : (s : Held) (es : List Entry) (ps : List ℕ) (p : ℕ) → isLast (length ps) (length es) ≡ false → appended s es ps p ≡ held (headAfter (s .head) p (s .head .base)) (s .index) (append es (ps ++ (p ∷ []))) (s .erased)
+appended-more : (s : Held) (es : List Entry) (ps : List ℕ) (p : ℕ) → isLast (length ps) (length es) ≡ false
+    → appended s es ps p ≡ held (headAfter (s .head) p (s .head .base)) (s .index) (append es (ps ++ (p ∷ []))) (s .erased)
 unfolding appended
 appended-more s es ps p e = rw e
 

@@ -16,7 +16,8 @@ use Rattle.index.proofs.Rising.{assign-rising}
 use Rattle.effects.specs.Effects.{touch, join, effect, ascendsFrom, ascends}
 use Rattle.effects.proofs.Laws.{by-order, touch-before, touch-same, touch-after, ascends-head, ascends-tail, ascends-cons, ascends-lower, nothing-ascends, touch-ascends, effect-changes}
 use Rattle.wanted_group.proofs.Lookup.{valve, assign-it, assign-else, same-list}
-use Rattle.valve_log.specs.History.{UnderWay, nothing, appending, committing, collecting, flushing, History, start as noHistory, Told, unchanged, beganAppend, beganCommit, beganCollect, putIn, beganFlush, steppedPage, steppedBlock, recovery, assignGroups, counted, tell}
+use Rattle.valve_log.specs.History.{UnderWay, nothing, appending, committing, collecting, flushing, History, start as noHistory, Told, unchanged}
+use Rattle.valve_log.specs.History.{beganAppend, beganCommit, beganCollect, putIn, beganFlush, steppedPage, steppedBlock, recovery, assignGroups, counted, tell}
 use Rattle.valve_log.specs.Reached.{World, happen, Reached, Words, Shows, Point3}
 use Rattle.valve_log.specs.SinceCommit.{commitEndsNext, committed, lastCommitted, Explains, EffectExplains}
 use Rattle.valve_log.proofs.Index.{assign-append}

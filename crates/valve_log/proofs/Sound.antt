@@ -17,7 +17,8 @@ use Rattle.flash.specs.Medium.{seen}
 use Rattle.nodes.specs.Nodes.{sound, words}
 use Rattle.state.specs.State.{Held, held, noneErased, idle}
 use Rattle.blocks.specs.Blocks.{sizeOk}
-use Rattle.recovery.specs.Recovery.{Placed, placed, serialOf, wholes, allLawful, distinct, sort, lastOf, noPage, baseOf, reaches, from, consecutive, Group, between, walk, groupsOf, logOf, pagesOf, enterPages, recoveryWith, base, chain, groups, replayed, recoveredState, recoverNeeds, recover}
+use Rattle.recovery.specs.Recovery.{Placed, placed, serialOf, wholes, allLawful, distinct, sort, lastOf, noPage, baseOf, reaches, from, consecutive, Group}
+use Rattle.recovery.specs.Recovery.{between, walk, groupsOf, logOf, pagesOf, enterPages, recoveryWith, base, chain, groups, replayed, recoveredState, recoverNeeds, recover}
 use Rattle.recovery.proofs.Pages.{base-append}
 use Rattle.valve_log.proofs.Order.{below, Grow, grow-all, grow-from, grow-sort, grow-distinct, Thin, thin-all, thin-distinct, thin-from}
 use Rattle.valve_log.proofs.Order.{upto, sort-split, from-sort, last-append, consecutive-append, consecutive-one, consecutive-last}
@@ -43,13 +44,13 @@ pub record Sound (v : List View) (log : List (List Entry)) (settings : List Sett
 -- ---- recovery
 
 module _ {v : List View} {log : List (List Entry)} {settings : List Setting} {b : ℕ} {ch : List Placed} {gs : List Group} {idx : List Place} (S : Sound v log settings b ch gs idx) where
-  split : sort (wholes 0 v) ≡ sort (upto b (wholes 0 v)) ++ ch
+  pub split : sort (wholes 0 v) ≡ sort (upto b (wholes 0 v)) ++ ch
   split = sort-split b (wholes 0 v) ∙ ap (λ (l : List Placed). sort (upto b (wholes 0 v)) ++ l) (S .chained)
 
   found-base : baseOf (sort (wholes 0 v)) ≡ some b
   found-base = rw split (base-append (sort (upto b (wholes 0 v))) ch b (S .based))
 
-  base-is : base v ≡ b
+  pub base-is : base v ≡ b
   unfolding base valueOr
   base-is = rw found-base
 

@@ -23,7 +23,8 @@ use Rattle.nodes.specs.Nodes.{wordAt, sound, words, live, pickBelow}
 use Rattle.state.specs.State.{Pending, append, commit, collect, flush, Held, groupOk, basePages, pendingFit, fit, fitWith, bufferedIn, stateNeeds}
 use Rattle.recovery.specs.Recovery.{Placed, wholes, sort, lastOf, noPage, Recovery}
 use Rattle.recovery.specs.Recovery
-use Rattle.readings.specs.Readings.{placeOf, openingNeeds, openingOf, lastNaming, setsAt, soughtIn, sought, wordRefusal, pickOf, surveyOf, availableOf, longEnough, putInto, filedInto, filedSettings, readSettings}
+use Rattle.readings.specs.Readings.{placeOf, openingNeeds, openingOf, lastNaming, setsAt, soughtIn, sought, wordRefusal}
+use Rattle.readings.specs.Readings.{pickOf, surveyOf, availableOf, longEnough, putInto, filedInto, filedSettings, readSettings}
 use Rattle.calls.specs.Calls.{starting, zip, listsOk, roomFor, appendNeeds, appendOf, commitNeeds, commitOf, collectNeeds, collectOf, flushNeeds, flushOf, bufferNeeds, bufferOf}
 use Rattle.step.specs.Step.{Step, stepOf, mediumAfter}
 use Rattle.valve_log.specs.Settings.{Stands}
@@ -103,7 +104,7 @@ wholes-inside n (clean ∷ v) = let z : n + suc (length v) ≡ suc n + length v 
 wholes-inside n (spoilt ∷ v) = let z : n + suc (length v) ≡ suc n + length v = omega arith in rw z (wholes-inside (suc n) v)
 wholes-inside n (whole pg ∷ v) = let z : n + suc (length v) ≡ suc n + length v = omega arith in rw (z, lt-ltb n (suc n + length v) (omega arith)) (wholes-inside (suc n) v)
 
-all-last : (f : Placed → Bool) (d : Placed) (l : List Placed) → 1 ≤ length l → all f l ≡ true → f (lastOf d l) ≡ true
+pub all-last : (f : Placed → Bool) (d : Placed) (l : List Placed) → 1 ≤ length l → all f l ≡ true → f (lastOf d l) ≡ true
 unfolding lastOf
 all-last f d [] h a = absurd (omega arith)
 all-last f d (x ∷ []) h a = all-head f x [] a
@@ -176,7 +177,8 @@ module _ (m : List ℕ) (s : Held) (bs : List ℕ) (h : History) (U : Upheld (wo
       checked-cases (λ (c : Answer (List ℕ)). StateReady (views (filled (world m (some s) bs) t c .after .medium)) (filled (world m (some s) bs) t c .after .state)) cs (gives b)
       (λ n. unfold filled StateReady in r) (λ e. unfold filled StateReady in r)
 
-  stepped-ready : (st : Answer Step) → Good (views m) s bs h st → StepReady (views m) st → StateReady (views (stepped (world m (some s) bs) st .after .medium)) (stepped (world m (some s) bs) st .after .state)
+  stepped-ready : (st : Answer Step) → Good (views m) s bs h st → StepReady (views m) st
+      → StateReady (views (stepped (world m (some s) bs) st .after .medium)) (stepped (world m (some s) bs) st .after .state)
   unfolding stepped mediumAfter Good StepReady StateReady
   stepped-ready (refused n) G R = r
   stepped-ready (gives (Step.program p pg s′ finished)) G R = rw (program-views m p pg (there m s bs h U p pg s′ G) (G .fits-in)) R

@@ -22,7 +22,8 @@ use Rattle.flash.proofs.Steps.{seen-set}
 use Rattle.index.specs.Index.{rising, within, assignAll}
 use Rattle.nodes.specs.Nodes.{setsValves, wordAt, words}
 use Rattle.state.specs.State.{idle, append, commit, collect, Held, held, basePages, groupOk, flushOk}
-use Rattle.recovery.specs.Recovery.{Placed, placed, kindOf, wholes, sort, baseOf, startsGroup, goesOn, from, consecutive, Group, group, between, joined, begun, walk, groupsOf, entriesOf, groupsOnPages, entersLog, logOfGroup, logOf, pagesOf, above, enterPages}
+use Rattle.recovery.specs.Recovery.{Placed, placed, kindOf, wholes, sort, baseOf, startsGroup, goesOn, from, consecutive, Group, group}
+use Rattle.recovery.specs.Recovery.{between, joined, begun, walk, groupsOf, entriesOf, groupsOnPages, entersLog, logOfGroup, logOf, pagesOf, above, enterPages}
 use Rattle.recovery.proofs.Pages.{pages-append}
 use Rattle.calls.proofs.Laws.{some-groups}
 use Rattle.step.specs.Step.{isLast, groupPage, headAfter, addressed, appended, committed, collected, flushed}

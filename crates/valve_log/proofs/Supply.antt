@@ -52,7 +52,7 @@ pub record Witness (n : ℕ) (f : ℕ → Bool) : Type 0 where
   pub below : at < n
   pub so : f at ≡ true
 
-count-witness : (n : ℕ) (f : ℕ → Bool) → 1 ≤ countBelow n f → Witness n f
+pub count-witness : (n : ℕ) (f : ℕ → Bool) → 1 ≤ countBelow n f → Witness n f
 unfolding countBelow oneIf
 count-witness zero f h = absurd (omega arith)
 count-witness (suc n) f h =
@@ -71,15 +71,15 @@ clean-elsewhere v p b x n =
     below-same 16 (λ i. isClean (seen (set v p x) (16 * b + i))) (λ i. isClean (seen v (16 * b + i))) (λ i l. ap isClean (seen-set-other v p (16 * b + i) x (λ e. n (omega arith))))
 
 -- a spare block
-spare-is : (v : List View) (head b : ℕ) → (b ≡ head → ⊥) → whollyClean v b ≡ true → spare v head b ≡ true
+pub spare-is : (v : List View) (head b : ℕ) → (b ≡ head → ⊥) → whollyClean v b ≡ true → spare v head b ≡ true
 unfolding spare
 spare-is v head b n c = rw (ne-eqb b head n) c
 
-spare-other : (v : List View) (head b : ℕ) → spare v head b ≡ true → b ≡ head → ⊥
+pub spare-other : (v : List View) (head b : ℕ) → spare v head b ≡ true → b ≡ head → ⊥
 unfolding spare
 spare-other v head b e = eqb-false b head (not-true (eqb b head) (and-l (not (eqb b head)) (whollyClean v b) e))
 
-spare-clean : (v : List View) (head b : ℕ) → spare v head b ≡ true → whollyClean v b ≡ true
+pub spare-clean : (v : List View) (head b : ℕ) → spare v head b ≡ true → whollyClean v b ≡ true
 unfolding spare
 spare-clean v head b e = and-r (not (eqb b head)) (whollyClean v b) e
 

@@ -24,7 +24,8 @@ use Rattle.state.proofs.Records.{none-was, none-length, others-was, now-length}
 use Rattle.recovery.specs.Recovery.{Recovery, recoveredState}
 use Rattle.recovery.specs.Recovery
 use Rattle.calls.specs.Calls.{starting, zip, appendOf, commitOf, collectOf, bufferOf, flushOf, formatting, formatOf}
-use Rattle.step.specs.Step.{Step, isLast, headAfter, appended, committed, collected, flushed, formatted, erasing, pageNeeds, programming, appendStep, commitStep, moveStep, collectStep, formatStep, flushStep, due, programsDue, needsErase, erasedFirst, stepOf}
+use Rattle.step.specs.Step.{Step, isLast, headAfter, appended, committed, collected, flushed, formatted, erasing, pageNeeds, programming}
+use Rattle.step.specs.Step.{appendStep, commitStep, moveStep, collectStep, formatStep, flushStep, due, programsDue, needsErase, erasedFirst, stepOf}
 use Rattle.step.proofs.Laws.{has-record, first-cases}
 use Rattle.valve_log.specs.History.{History, Told, beganAppend, beganCommit, beganCollect, putIn, beganFlush}
 use Rattle.valve_log.specs.Reached.{World, world, withState, stepDue, Event, called, filled, stepped, cutShort, recovered, happen, Formatting, Reached}
@@ -344,7 +345,8 @@ unfolding weakIn
 list-kept weak w h (Reached.start v F e) = event-kept (weakInFormat weak v F) (v .medium) (v .state) (v .buffer) Event.step (format-kept weak v F)
 list-kept weak w h (Reached.next v g e R) = event-kept (weakIn weak v g R) (v .medium) (v .state) (v .buffer) e (list-kept weak v g R)
 
-programs-strong : (weak : Weak) (m : List ℕ) (s : Option Held) (bs : List ℕ) → Kept weak s → (p : ℕ) (pg : Page) (t : Held) (f : Bool) → stepDue (world m s bs) ≡ gives (Step.program p pg t f) → weak (p / 16) ≡ false
+programs-strong : (weak : Weak) (m : List ℕ) (s : Option Held) (bs : List ℕ) → Kept weak s → (p : ℕ) (pg : Page) (t : Held) (f : Bool)
+    → stepDue (world m s bs) ≡ gives (Step.program p pg t f) → weak (p / 16) ≡ false
 unfolding stepDue withState
 programs-strong weak m none bs K p pg t f e = let z : _≡_ {A = ℕ} 0 1 = cc in absurd (omega arith)
 programs-strong weak m (some s) bs K p pg t f e = go (stepOf (length m) (views m) s bs) (step-careful weak m s bs (unfold Kept in K)) e

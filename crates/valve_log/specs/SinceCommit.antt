@@ -12,7 +12,8 @@ use Rattle.state.specs.State.{Held}
 use Rattle.lists.specs.Needs.{gives}
 use Rattle.recovery.specs.Recovery.{recoveryWith, recover as recoverOf}
 use Rattle.effects.specs.Effects.{effect}
-use Rattle.valve_log.specs.History.{UnderWay, nothing, appending, committing, collecting, flushing, History, Told, unchanged, beganAppend, beganCommit, beganCollect, putIn, beganFlush, steppedPage, steppedBlock, recovery}
+use Rattle.valve_log.specs.History.{UnderWay, nothing, appending, committing, collecting, flushing, History, Told}
+use Rattle.valve_log.specs.History.{unchanged, beganAppend, beganCommit, beganCollect, putIn, beganFlush, steppedPage, steppedBlock, recovery}
 use Rattle.valve_log.specs.Reached.{World, happen, Reached, Words}
 
 -- a commit has one page left, so that a step on a page finishes it and it counts

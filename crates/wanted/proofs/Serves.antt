@@ -13,7 +13,8 @@ use Rattle.lists.specs.declared.Cell.{Cell}
 use Rattle.lists.specs.Lists.{all, every}
 use Rattle.lists.specs.Needs.{Answer, refused, gives, answered, Need, need, under, checked}
 use Rattle.lists.specs.Cells.{Entry, Setting, keysOf, wordsOf}
-use Rattle.lists.proofs.Laws.{by-cases, true-false, same-refusal, given-refused, answered-refused, and-l, and-r, and-both, all-head, all-tail, numbered, every-at, tests, checked-cases, checked-pass, checked-join, length-keys, length-words}
+use Rattle.lists.proofs.Laws.{by-cases, true-false, same-refusal, given-refused, answered-refused, and-l, and-r, and-both, all-head}
+use Rattle.lists.proofs.Laws.{all-tail, numbered, every-at, tests, checked-cases, checked-pass, checked-join, length-keys, length-words}
 use Rattle.page.specs.Pages.{View}
 use Rattle.flash.specs.Medium.{views}
 use Rattle.index.specs.Index.{rising, assignAll, within, entriesAllowed}

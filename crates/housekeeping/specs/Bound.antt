@@ -1,0 +1,115 @@
+-- How few operations the dispatcher names, where an append met 13, until that same group is let in.
+use mathlib.Core.Path.{_≡_}
+use mathlib.Core.Bool.{Bool, true, false, not}
+use mathlib.Core.Option.{some}
+use mathlib.Core.List.{List, [], _∷_}
+use Prim.Native.Nat.{ℕ, suc, _+_, _-_, _^_, _≤_}
+use lib.ListN.{length}
+use Rattle.lists.specs.Lists.{Below}
+use Rattle.lists.specs.Needs.{Answer, refused, gives}
+use Rattle.page.specs.Pages.{View}
+use Rattle.flash.specs.Medium.{views}
+use Rattle.blocks.specs.Blocks.{sizeOk, available}
+use Rattle.state.specs.State.{idle, Held}
+use Rattle.calls.specs.Calls.{holdsNone, appendOf, bufferOf}
+use Rattle.step.specs.Step.{Step}
+use Rattle.dispatcher.specs.Dispatch.{Next, nextOf}
+use Rattle.valve_log.specs.History.{History}
+use Rattle.valve_log.specs.Reached.{World, world, fresh, withState, Event, stepDue, happen, finishes, Reached}
+
+-- a step that touches a page or block and does not finish the operation
+unfoldable pub isUnfinished : Answer Step → Bool
+isUnfinished (refused n) = false
+isUnfinished (gives (Step.program p pg s finished)) = not finished
+isUnfinished (gives (Step.erase b s finished)) = not finished
+
+-- "without cuts": the operation pending in a world is carried to its end by its steps, none of them refused, and the second world is the one
+-- that it leads to.
+pub data Finishes : World → World → Type 0 where
+  last : (w : World) → finishes (stepDue w) ≡ true → Finishes w (happen w Event.step .after)
+  more : (w w′ : World) → isUnfinished (stepDue w) ≡ true → Finishes (happen w Event.step .after) w′ → Finishes w w′
+
+-- what the dispatcher answers in a world, where "the log is read"; without a state there is nothing to ask it with
+unfoldable pub namedIn : World → List ℕ → List ℕ → Answer Next
+namedIn w ks ws = withState (w .state) (refused 7) (λ s. nextOf (length (w .medium)) (views (w .medium)) s (w .buffer) ks ws true)
+
+-- what an append of this group would answer there
+unfoldable pub appendIn : World → List ℕ → List ℕ → Answer Held
+appendIn w ks ws = withState (w .state) (refused 7) (λ s. appendOf (length (w .medium)) (views (w .medium)) s (w .buffer) ks ws)
+
+-- The dispatcher is asked; the operation it names is begun and finished; and so on, until it names the append of the group ks ws, which
+-- is then begun and finished too. The list has the operations named before that append, in order; it leads from the first world to the second.
+pub data Admits (ks ws : List ℕ) : List Next → World → World → Type 0 where
+  lets-in : (w end : World) (s′ : Held) → namedIn w ks ws ≡ gives Next.append → appendIn w ks ws ≡ gives s′ → Finishes (world (w .medium) (some s′) (w .buffer)) end
+      → Admits ks ws [] w end
+  commits : {ops : List Next} (w w′ end : World) → namedIn w ks ws ≡ gives Next.commit → Finishes (happen w Event.commit .after) w′
+      → Admits ks ws ops w′ end → Admits ks ws (Next.commit ∷ ops) w end
+  collects : {ops : List Next} (w w′ end : World) (x : ℕ) → namedIn w ks ws ≡ gives (Next.collect x) → Finishes (happen w (Event.collect x) .after) w′
+      → Admits ks ws ops w′ end → Admits ks ws (Next.collect x ∷ ops) w end
+
+-- From a world there is one such way at most: the same operations in the same order, to the same world.
+unfoldable pub OneWay : Type 0
+OneWay = (ks ws : List ℕ) (ops ops′ : List Next) (w end end′ : World) → Admits ks ws ops w end → Admits ks ws ops′ w end′ → (ops ≡ ops′) × (end ≡ end′)
+
+-- how many of the operations are commits
+unfoldable pub commitsIn : List Next → ℕ
+commitsIn [] = 0
+commitsIn (Next.append ∷ ops) = commitsIn ops
+commitsIn (Next.commit ∷ ops) = suc (commitsIn ops)
+commitsIn (Next.collect x ∷ ops) = commitsIn ops
+
+-- how many are collections
+unfoldable pub collectionsIn : List Next → ℕ
+collectionsIn [] = 0
+collectionsIn (Next.append ∷ ops) = collectionsIn ops
+collectionsIn (Next.commit ∷ ops) = collectionsIn ops
+collectionsIn (Next.collect x ∷ ops) = suc (collectionsIn ops)
+
+-- at most so many commits and so many collections let the group in
+pub record Bounded (ks ws : List ℕ) (most-commits most-collections : ℕ) (w : World) : Type 0 where
+  pub operations : List Next
+  pub end : World
+  pub few-commits : commitsIn operations ≤ most-commits
+  pub few-collections : collectionsIn operations ≤ most-collections
+  pub admits : Admits ks ws operations w end
+
+-- "On a medium reached, and with the state last handed back, as the valve log's statement describes, if an append met 13 with at least 16
+-- pages available, the log is read, no operation is pending and serials suffice": 16 serials do. Where a commit is named, its base takes at most 8,
+-- the moved nodes 4 and the group 4; where none is, the moved nodes take at most 8 and the group 4. Of the buffer Paper 10 says: "its bound
+-- needs it empty". As in the valve log's statement, keys have 16 bits and words 64.
+pub record Meets13 (w : World) (h : History) (s : Held) (ks ws : List ℕ) : Type 0 where
+  pub reached : Reached w h
+  pub state : w .state ≡ some s
+  pub empty : w .buffer ≡ fresh
+  pub rests : s .pending ≡ idle
+  pub met13 : appendOf (length (w .medium)) (views (w .medium)) s (w .buffer) ks ws ≡ refused 13
+  pub pages : 16 ≤ available (views (w .medium)) (s .head)
+  pub serials : s .head .serial + 16 ≤ 2 ^ 64 - 1
+  pub narrow : Below (2 ^ 16) ks
+  pub small : Below (2 ^ 64) ws
+
+-- "then without cuts at most one commit and at most two collections let that same group in", for every block count at once
+unfoldable pub Bound : Type 0
+Bound = (w : World) (h : History) (s : Held) (ks ws : List ℕ) → Meets13 w h s ks ws → Bounded ks ws 1 2 w
+
+-- one collection is enough
+unfoldable pub Sharper : Type 0
+Sharper = (w : World) (h : History) (s : Held) (ks ws : List ℕ) → Meets13 w h s ks ws → Bounded ks ws 1 1 w
+
+-- A group that the empty write buffer turns away with 13 meets 13 in its append too; where `Meets13`'s other premises hold, the bound lets it in.
+unfoldable pub SmallGroups : Type 0
+SmallGroups = (n : ℕ) (v : List View) (s : Held) (b ks ws : List ℕ) → holdsNone b ≡ true → bufferOf n v s b ks ws ≡ refused 13 → appendOf n v s b ks ws ≡ refused 13
+
+-- the premises are met by some world on a medium of n bytes
+pub record Arises (n : ℕ) : Type 0 where
+  pub w : World
+  pub h : History
+  pub s : Held
+  pub ks : List ℕ
+  pub ws : List ℕ
+  pub size : length (w .medium) ≡ n
+  pub met : Meets13 w h s ks ws
+
+-- and so on media of every allowed length; `journal` Housekeeping says it of a run of the code
+unfoldable pub Possible : Type 0
+Possible = (n : ℕ) → sizeOk n ≡ true → Arises n
