@@ -18,6 +18,7 @@
 //!   cuts played by either.
 //! * [`run`]: whole operations from C, over a chip whose driver can fail.
 //! * [`stack`]: how much stack a call takes.
+//! * [`tight`]: recovery as tight as it can be written, the yardstick for times.
 
 #![deny(unsafe_code)]
 
@@ -37,6 +38,7 @@ pub mod reader;
 pub mod run;
 #[allow(unsafe_code)]
 pub mod stack;
+pub mod tight;
 #[allow(unsafe_code)]
 #[path = "../../include/valve_journal.rs"]
 pub mod valve_journal;
