@@ -20,5 +20,5 @@ pub record Orders (n : ℕ) (v : List View) (s : Held) (b ks ws : List ℕ) (blo
   pub flush : numbersOf (flushNeeds n v s b) ≡ 1 ∷ 7 ∷ 8 ∷ 10 ∷ 11 ∷ 12 ∷ 13 ∷ 14 ∷ []
   pub buffer : numbersOf (bufferNeeds n v s b ks ws) ≡ 1 ∷ 7 ∷ 8 ∷ 10 ∷ 11 ∷ 12 ∷ 23 ∷ 13 ∷ 14 ∷ []
 
-unfoldable pub Ordered : Type 0
-Ordered = (n : ℕ) (v : List View) (s : Held) (b ks ws : List ℕ) (block : ℕ) → Orders n v s b ks ws block
+unfoldable pub InPapersOrder : Type 0
+InPapersOrder = (n : ℕ) (v : List View) (s : Held) (b ks ws : List ℕ) (block : ℕ) → Orders n v s b ks ws block

@@ -19,7 +19,7 @@ use Rattle.wanted_group.proofs.Lookup.{valve, assign-it, assign-else, same-list
 use Rattle.valve_log.specs.History.{UnderWay, nothing, appending, committing, collecting, flushing, History, start as noHistory, Told, unchanged}
 use Rattle.valve_log.specs.History.{beganAppend, beganCommit, beganCollect, putIn, beganFlush, steppedPage, steppedBlock, recovery, assignGroups, counted, tell}
 use Rattle.valve_log.specs.Reached.{World, happen, Reached, Words, Shows, Point3}
-use Rattle.valve_log.specs.SinceCommit.{commitEndsNext, committed, lastCommitted, Explains, EffectExplains}
+use Rattle.valve_log.specs.SinceCommit.{commitEndsNext, settingsAtCommit, lastCommitted, Explains, EffectExplains}
 use Rattle.valve_log.proofs.Index.{assign-append}
 use Rattle.valve_log.proofs.Point3.{point3}
 
@@ -153,8 +153,8 @@ counted-since h s (flushing gs (suc zero)) k =
     }
 counted-since h s (flushing gs (suc (suc n))) k = record { rises = k .rises; rises-now = k .rises-now; so = k .so }
 
-pub tell-since : (h : History) (s : List Setting) (t : Told) → Since h s → Since (tell h t) (committed s h t)
-unfolding tell committed
+pub tell-since : (h : History) (s : List Setting) (t : Told) → Since h s → Since (tell h t) (settingsAtCommit s h t)
+unfolding tell settingsAtCommit
 tell-since h s unchanged k = k
 tell-since h s (beganAppend es) k = record { rises = k .rises; rises-now = k .rises-now; so = k .so }
 tell-since h s beganCommit k = record { rises = k .rises; rises-now = k .rises-now; so = k .so }

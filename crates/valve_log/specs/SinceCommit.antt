@@ -27,21 +27,21 @@ commitEndsNext collecting = false
 commitEndsNext (flushing gs n) = false
 
 -- The settings at the last counted commit, s so far, after what the history h is told: where a commit counts they are the history's.
-unfoldable pub committed : List Setting → History → Told → List Setting
-committed s h unchanged = s
-committed s h (beganAppend es) = s
-committed s h beganCommit = s
-committed s h beganCollect = s
-committed s h (putIn es) = s
-committed s h beganFlush = s
-committed s h steppedPage = cond (commitEndsNext (h .underWay)) (h .settings) s
-committed s h steppedBlock = s
-committed s h recovery = s
+unfoldable pub settingsAtCommit : List Setting → History → Told → List Setting
+settingsAtCommit s h unchanged = s
+settingsAtCommit s h (beganAppend es) = s
+settingsAtCommit s h beganCommit = s
+settingsAtCommit s h beganCollect = s
+settingsAtCommit s h (putIn es) = s
+settingsAtCommit s h beganFlush = s
+settingsAtCommit s h steppedPage = cond (commitEndsNext (h .underWay)) (h .settings) s
+settingsAtCommit s h steppedBlock = s
+settingsAtCommit s h recovery = s
 
 -- along a list of calls and cuts; "none set before the first"
 unfoldable pub lastCommitted : (w : World) (h : History) → Reached w h → List Setting
 lastCommitted w h (Reached.start v F e) = []
-lastCommitted w h (Reached.next v g e r) = committed (lastCommitted v g r) g (happen v e .told)
+lastCommitted w h (Reached.next v g e r) = settingsAtCommit (lastCommitted v g r) g (happen v e .told)
 
 -- Recovery is accepted, and the effect of its whole log, laid on some settings, gives its valves, each with the word at its address.
 pub record Explains (m : List ℕ) (before : List Setting) : Type 0 where
