@@ -154,7 +154,8 @@ module _ {m : List ℕ} {s : Held} {h : History} (K : Known m s h) (rests : s .p
   unfolding commitOf
   commit-begins a b =
       checked-pass (commitNeeds (length m) (views m) s fresh) (gives (starting s (commit 0)))
-      (unfold every tests roomFor serialsFor in rw (K .upheld .size, fits-fresh K, is-idle, none-buffered, le-leb (basePages (length (s .index))) (available (views m) (s .head)) a, le-leb (s .head .serial + basePages (length (s .index))) (2 ^ 64 - 1) b))
+      (unfold every tests roomFor serialsFor in rw (K .upheld .size, fits-fresh K, is-idle, none-buffered, le-leb (basePages (length (s .index))) (available (views m) (s .head)) a, le-leb
+      (s .head .serial + basePages (length (s .index))) (2 ^ 64 - 1) b))
 
   collect-begins : (b : ℕ) → collectible (views m) (s .head) b ≡ true → pagesFor (length (live (s .index) b)) ≤ available (views m) (s .head)
       → s .head .serial + pagesFor (length (live (s .index) b)) ≤ 2 ^ 64 - 1
@@ -227,7 +228,8 @@ collect-first : {ks ws : List ℕ} {a b : ℕ} (w w′ : World) (x : ℕ) → na
     → Bounded ks ws a (suc b) w
 unfolding commitsIn collectionsIn
 collect-first w w′ x n F B =
-    record { operations = Next.collect x ∷ B .operations; end = B .end; few-commits = B .few-commits; few-collections = omega (arith, B .few-collections); admits = collects w w′ (B .end) x n F (B .admits) }
+    record { operations = Next.collect x ∷ B .operations; end = B .end; few-commits = B .few-commits; few-collections = omega (arith, B .few-collections); admits =
+        collects w w′ (B .end) x n F (B .admits) }
 
 -- ---- the group is let in
 
@@ -249,7 +251,8 @@ module _ (ks ws : List ℕ) (narrow : Below (2 ^ 16) ks) (small : Below (2 ^ 64)
       → s .head .serial + 4 ≤ 2 ^ 64 - 1 → Bounded ks ws 0 0 (world m (some s) fresh)
   admit-now {m} {s} {h} K e o room serials =
       let p = few-pages ks ws (o .lists) in
-      let a = append-begins K e ks ws o (unfold roomFor in le-leb (pagesFor (length ks) + 16) (available (views m) (s .head)) room) (unfold serialsFor in le-leb (s .head .serial + pagesFor (length ks)) (2 ^ 64 - 1) (omega arith)) in
+      let a = append-begins K e ks ws o (unfold roomFor in le-leb (pagesFor (length ks) + 16) (available (views m) (s .head)) room)
+      (unfold serialsFor in le-leb (s .head .serial + pagesFor (length ks)) (2 ^ 64 - 1) (omega arith)) in
       let K₁ =
       knows-begun K (starting s (append (zip ks ws) [])) (Event.append ks ws narrow small) (beganAppend (zip ks ws)) (append-begun K ks ws narrow small (starting s (append (zip ks ws) [])) a) in
       let D = append-runs (pagesFor (length ks) - 1) K₁ (zip ks ws) [] refl (zip-pages ks ws (o .lists)) (omega (arith, some-page ks ws (o .lists))) (omega (arith, some-page ks ws (o .lists))) in
@@ -358,7 +361,8 @@ base-last v e = go (seen v (s .at)) refl (not-false (endsBase (greatestSerial v)
 
 -- ---- the bound
 
-module _ {m : List ℕ} {s : Held} {h : History} (K : Known m s h) (rests : s .pending ≡ idle) (ks ws : List ℕ) (narrow : Below (2 ^ 16) ks) (small : Below (2 ^ 64) ws) (full13 : appendOf (length m) (views m) s fresh ks ws ≡ refused 13) (many : 16 ≤ available (views m) (s .head))
+module _ {m : List ℕ} {s : Held} {h : History} (K : Known m s h) (rests : s .pending ≡ idle) (ks ws : List ℕ) (narrow : Below (2 ^ 16) ks) (small : Below (2 ^ 64) ws)
+    (full13 : appendOf (length m) (views m) s fresh ks ws ≡ refused 13) (many : 16 ≤ available (views m) (s .head))
     (serials : s .head .serial + 16 ≤ 2 ^ 64 - 1) where
   abbrev v : List View
   v = views m
@@ -388,7 +392,8 @@ module _ {m : List ℕ} {s : Held} {h : History} (K : Known m s h) (rests : s .p
   used : (x : ℕ) → x < s .head .blocks → (x ≡ s .head .block → ⊥) → (x ≡ spare-one .at → ⊥) → whollyClean v x ≡ false
   used x l nh ns =
       by-cases (whollyClean v x)
-      (λ e. absurd (let t = count-two (s .head .blocks) (spare v (s .head .block)) x (spare-one .at) l (spare-one .below) ns (spare-is v (s .head .block) x nh e) (spare-one .so) in omega (arith, one-spare)))
+      (λ e. absurd (let t = count-two (s .head .blocks) (spare v (s .head .block)) x (spare-one .at) l (spare-one .below) ns (spare-is v (s .head .block) x nh e) (spare-one .so) in omega
+      (arith, one-spare)))
       (λ e. e)
 
   frame₀ : Frame v (s .head) (s .head .serial) (s .head .block) (spare-one .at)
@@ -431,7 +436,8 @@ module _ {m : List ℕ} {s : Held} {h : History} (K : Known m s h) (rests : s .p
           go (no k) = absurd (apart (pair .each q pg y (omega arith)))
 
       N : Named v (s .head) (s .index) (s .head .blocks)
-      N = names v (s .head) (s .index) (s .head .blocks) (free .x) inside (collectible-is v (s .head) (free .x) inside (used (free .x) inside (free .xa) (free .xb)) (free .xa) (old-is v (s .head .base) (free .x) no-base-page))
+      N = names v (s .head) (s .index) (s .head .blocks) (free .x) inside
+          (collectible-is v (s .head) (free .x) inside (used (free .x) inside (free .xa) (free .xb)) (free .xa) (old-is v (s .head .base) (free .x) no-base-page))
 
   -- after a commit: at once, or one collection
   module _ (c : ℕ) (D : CommitDone m (starting s (commit 0)) c (s .head .serial) (s .head .block) (spare-one .at)) (most : c ≤ 8) where
@@ -485,7 +491,8 @@ module _ {m : List ℕ} {s : Held} {h : History} (K : Known m s h) (rests : s .p
       D : CommitDone m (starting s (commit 0)) (suc (basePages (length (s .index)) - 1)) (s .head .serial) (s .head .block) (spare-one .at)
       D =
           let b = base-some (length (s .index)) (index-few K) in
-          commit-runs (basePages (length (s .index)) - 1) (knows-begun K (starting s (commit 0)) Event.commit beganCommit ev) 0 (s .head .serial) (s .head .block) (spare-one .at) refl (omega (arith, b .0)) (omega arith) (omega (arith, few-base-pages)) frame₀
+          commit-runs (basePages (length (s .index)) - 1) (knows-begun K (starting s (commit 0)) Event.commit beganCommit ev) 0 (s .head .serial) (s .head .block) (spare-one .at) refl
+          (omega (arith, b .0)) (omega arith) (omega (arith, few-base-pages)) frame₀
 
       first : (n : ℕ) → n ≤ 1 → Bounded ks ws 0 n (world (D .m′) (some (D .s′)) fresh) → Bounded ks ws 1 1 (world m (some s) fresh)
       first n l B =

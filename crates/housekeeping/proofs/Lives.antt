@@ -149,7 +149,8 @@ module _ (v : List View) (s : Held) (h : History) (c : Coupled v (some s) h) (r 
           let serials = page-serial 2 (s .index) k (s .head .serial) in
           by-cases (isLast k (length (s .index)))
           (λ l. rw l (base-stands v (s .head) p (groupPage 2 (s .index) k (s .head .serial)) bound f serials k (s .index) idle (s .erased) no-idle few w (t .near k e)))
-          (λ l. rw l (plain-stands v (s .head) p (groupPage 2 (s .index) k (s .head .serial)) bound f serials (s .head .base) (s .index) (commit (suc k)) (s .erased) (λ j q. near-more v (s .head) p (groupPage 2 (s .index) k (s .head .serial)) bound f serials (s .head .base) k few w (t .near k e) j q) (unended l)))
+          (λ l. rw l (plain-stands v (s .head) p (groupPage 2 (s .index) k (s .head .serial)) bound f serials (s .head .base) (s .index) (commit (suc k)) (s .erased)
+          (λ j q. near-more v (s .head) p (groupPage 2 (s .index) k (s .head .serial)) bound f serials (s .head .base) k few w (t .near k e) j q) (unended l)))
         where
           unended : isLast k (length (s .index)) ≡ false → baseEnd (groupPage 2 (s .index) k (s .head .serial)) ≡ false
           unended l = unfold baseEnd in rw (ends-page 2 (s .index) k (s .head .serial), l) (and-false (eqb (groupPage 2 (s .index) k (s .head .serial) .kind) 2))
@@ -172,7 +173,8 @@ module _ (v : List View) (s : Held) (h : History) (c : Coupled v (some s) h) (r 
 
       after : Which v (s .head) p → isClean (seen v p) ≡ true → Stands (set v p (whole (page 3 3 (s .head .serial) (words v (take 24 l))))) (collected s b (take 24 l) p)
       after w f = unfold collected in
-          plain-stands v (s .head) p (page 3 3 (s .head .serial) (words v (take 24 l))) bound f refl (s .head .base) _ (collect b) (s .erased) (λ k y. absurd (no-collect b k y)) (unfold baseEnd in refl)
+          plain-stands v (s .head) p (page 3 3 (s .head .serial) (words v (take 24 l))) bound f refl (s .head .base) _ (collect b) (s .erased) (λ k y. absurd (no-collect b k y))
+          (unfold baseEnd in refl)
 
   collect-stands : (b : ℕ) → s .pending ≡ collect b → (l : List Place) → live (s .index) b ≡ l → StepStands v (collectStep v s b l)
   unfolding collectStep
@@ -185,7 +187,8 @@ module _ (v : List View) (s : Held) (h : History) (c : Coupled v (some s) h) (r 
     where
       after : Which v (s .head) p → isClean (seen v p) ≡ true → Stands (set v p (whole (groupsPage (s .head .serial) gs))) (flushed s gs p)
       after w f = unfold flushed in
-          plain-stands v (s .head) p (groupsPage (s .head .serial) gs) bound f (unfold groupsPage in refl) (s .head .base) _ idle (s .erased) (λ k q. absurd (no-idle k q)) (unfold baseEnd groupsPage in refl)
+          plain-stands v (s .head) p (groupsPage (s .head .serial) gs) bound f (unfold groupsPage in refl) (s .head .base) _ idle (s .erased) (λ k q. absurd (no-idle k q))
+          (unfold baseEnd groupsPage in refl)
 
   due-stands : (gs : List (List Entry)) (pend : Pending) → s .pending ≡ pend → StepStands v (due v s gs pend)
   unfolding due
@@ -203,7 +206,8 @@ module _ (v : List View) (s : Held) (h : History) (c : Coupled v (some s) h) (r 
   step-stands n bs =
       checked-cases (StepStands v) _ _ (λ k. unfold StepStands in tt)
       (λ z. first-cases (StepStands v) v s (due v s (bufferedIn bs) (s .pending))
-      (λ q. unfold StepStands erasing in (λ w cut. fewer-stands v w s (s .pending) _ (λ k z. z) (turned-fewer v w (16 * newHead v (s .head)) 16 cut) t)) (λ q. due-stands (bufferedIn bs) (s .pending) refl))
+      (λ q. unfold StepStands erasing in (λ w cut. fewer-stands v w s (s .pending) _ (λ k z. z) (turned-fewer v w (16 * newHead v (s .head)) 16 cut) t))
+      (λ q. due-stands (bufferedIn bs) (s .pending) refl))
 
 -- ---- events
 
@@ -223,7 +227,8 @@ module _ (m : List ℕ) (s : Held) (bs : List ℕ) (h : History) (U : Upheld (wo
       checked-cases (λ (c : Answer Held). Placing (views (called (world m (some s) bs) t c .after .medium)) (called (world m (some s) bs) t c .after .state)) cs (gives s′)
       (λ n. unfold called in P) (λ e. unfold called in p)
 
-  buffer-stands : (t : Told) (cs : List Need) (b : List ℕ) → Placing (views (filled (world m (some s) bs) t (checked cs b) .after .medium)) (filled (world m (some s) bs) t (checked cs b) .after .state)
+  buffer-stands : (t : Told) (cs : List Need) (b : List ℕ) → Placing (views (filled (world m (some s) bs) t (checked cs b) .after .medium))
+      (filled (world m (some s) bs) t (checked cs b) .after .state)
   buffer-stands t cs b =
       checked-cases (λ (c : Answer (List ℕ)). Placing (views (filled (world m (some s) bs) t c .after .medium)) (filled (world m (some s) bs) t c .after .state)) cs (gives b)
       (λ n. unfold filled in P) (λ e. unfold filled in P)
@@ -262,7 +267,8 @@ module _ (m : List ℕ) (s : Held) (bs : List ℕ) (h : History) (U : Upheld (wo
 
       torn-based : sameBytes left (programmed m p pg) ≡ false → Based (views left) (base (views left)) (suc (serialOf (newestOf (views left))))
       torn-based e =
-          let t = thin-of (C .b) 0 (views m) (views left) (cut-seen m s bs h U p pg s′ G left c .size) (one-lost (C .b) (views m) (views left) p (G .cleans) (not-whole m s bs h U p pg s′ G left c e) (others m s bs h U p pg s′ G left c)) in
+          let t = thin-of (C .b) 0 (views m) (views left) (cut-seen m s bs h U p pg s′ G left c .size)
+          (one-lost (C .b) (views m) (views left) p (G .cleans) (not-whole m s bs h U p pg s′ G left c e) (others m s bs h U p pg s′ G left c)) in
           rw (lost-base (C .medium) (views left) t, lost-next (C .medium) (views left) t) (fewer-based (fewer e) (rw (base-is (C .medium), greatest (C .medium)) at (P .based)))
   cut-places (gives (Step.erase b s′ finished)) G R left c =
       let k = cut-erase-views m b left (block-there m s bs h U b s′ G) (U .guarded) c in
@@ -289,7 +295,8 @@ unfolding happen withState stepDue
 event-places m none bs h (Event.append ks ws a b) U r P = P
 event-places m (some s) bs h (Event.append ks ws a b) U r P =
     unfold appendOf StateReady in
-    call-stands m s bs h U r P (beganAppend (zip ks ws)) (appendNeeds (length m) (views m) s bs ks ws) (starting s (append (zip ks ws) [])) (begun-stands m s bs h U r P (append (zip ks ws) []) (λ k q. absurd (no-append (zip ks ws) [] k q)))
+    call-stands m s bs h U r P (beganAppend (zip ks ws)) (appendNeeds (length m) (views m) s bs ks ws) (starting s (append (zip ks ws) []))
+    (begun-stands m s bs h U r P (append (zip ks ws) []) (λ k q. absurd (no-append (zip ks ws) [] k q)))
 event-places m none bs h Event.commit U r P = P
 event-places m (some s) bs h Event.commit U r P =
     unfold commitOf StateReady in

@@ -104,7 +104,8 @@ same-at n (clean ∷ v) zero pg d e = not-clean pg e
 same-at n (spoilt ∷ v) zero pg d e = not-spoilt pg e
 same-at n (whole x ∷ v) zero pg d e =
     and-both (or-right (not (eqb (x .serial) (pg .serial))) (eqb n (n + 0)) (eq-eqb n (n + 0) (omega arith)))
-    (all-weaken (otherSerial (x .serial)) (λ (y : Placed). not (eqb (serialOf y) (pg .serial)) || eqb (y .at) (n + 0)) weaker (wholes (suc n) v) (and-l (all (otherSerial (x .serial)) (wholes (suc n) v)) (distinct (wholes (suc n) v)) d))
+    (all-weaken (otherSerial (x .serial)) (λ (y : Placed). not (eqb (serialOf y) (pg .serial)) || eqb (y .at) (n + 0)) weaker (wholes (suc n) v)
+    (and-l (all (otherSerial (x .serial)) (wholes (suc n) v)) (distinct (wholes (suc n) v)) d))
   where
     weaker : (y : Placed) → otherSerial (x .serial) y ≡ true → (not (eqb (serialOf y) (pg .serial)) || eqb (y .at) (n + 0)) ≡ true
     weaker y o = or-left (not (eqb (serialOf y) (pg .serial))) (eqb (y .at) (n + 0)) (rw (← whole-is x pg e) (other-back (x .serial) y o))
@@ -142,7 +143,8 @@ module _ {v : List View} {log : List (List Entry)} {settings : List Place} {b : 
   -- recovery's head holds it
   pub newest-at : (q : ℕ) (pg : Page) → seen v q ≡ whole pg → suc (pg .serial) ≡ b + length ch → q ≡ newestOf v .at
   newest-at q pg e n =
-      let f = all-last (λ (y : Placed). not (eqb (serialOf y) (pg .serial)) || eqb (y .at) (0 + q)) noPage (sort (wholes 0 v)) some-page (all-sort (λ (y : Placed). not (eqb (serialOf y) (pg .serial)) || eqb (y .at) (0 + q)) (wholes 0 v) (same-at 0 v q pg (S .distincts) e)) in
+      let f = all-last (λ (y : Placed). not (eqb (serialOf y) (pg .serial)) || eqb (y .at) (0 + q)) noPage (sort (wholes 0 v)) some-page
+      (all-sort (λ (y : Placed). not (eqb (serialOf y) (pg .serial)) || eqb (y .at) (0 + q)) (wholes 0 v) (same-at 0 v q pg (S .distincts) e)) in
       let s : serialOf (newestOf v) ≡ pg .serial = omega (arith, greatest S) in
       let t : newestOf v .at ≡ 0 + q =
       eqb-true (newestOf v .at) (0 + q) (or-other (eqb (serialOf (newestOf v)) (pg .serial)) (eqb (newestOf v .at) (0 + q)) f (eq-eqb (serialOf (newestOf v)) (pg .serial) s)) in
@@ -237,7 +239,8 @@ seen-after v p pg c q x e = go (ℕ-discrete q p)
     go (yes k) = new k (whole-is x pg (sym e ∙ (rw k (seen-set v p (whole pg) (clean-in v p c)))))
     go (no k) = old (sym (seen-set-other v p q (whole pg) k) ∙ e)
 
-module _ (v : List View) (h : Head) (p : ℕ) (pg : Page) (bound : (q : ℕ) (x : Page) → seen v q ≡ whole x → x .serial < h .serial) (cleans : isClean (seen v p) ≡ true) (serials : pg .serial ≡ h .serial) where
+module _ (v : List View) (h : Head) (p : ℕ) (pg : Page) (bound : (q : ℕ) (x : Page) → seen v q ≡ whole x → x .serial < h .serial) (cleans : isClean (seen v p) ≡ true)
+    (serials : pg .serial ≡ h .serial) where
   -- the page with the new greatest serial is the new one
   newest-new : (q : ℕ) (x : Page) → seen (set v p (whole pg)) q ≡ whole x → suc (x .serial) ≡ suc (h .serial) → (q ≡ p) × (x ≡ pg)
   newest-new q x e n = go (seen-after v p pg cleans q x e)

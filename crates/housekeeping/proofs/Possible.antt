@@ -164,11 +164,13 @@ one-page = refl
 
 -- the page of the group
 append-due : {m : List ℕ} (s : Held) {h : History} (K : Known m (starting s (append entry [])) h) → 1 ≤ available (views m) (s .head) → s .head .serial + 1 ≤ 2 ^ 64 - 1 → (records : List Bool)
-    → due (views m) (held (s .head) (s .index) (append entry []) records) (bufferedIn fresh) (append entry []) ≡ gives (Step.program (pageDue (views m) (s .head)) (groupPage 1 entry 0 (s .head .serial))
+    → due (views m) (held (s .head) (s .index) (append entry []) records) (bufferedIn fresh) (append entry []) ≡ gives
+    (Step.program (pageDue (views m) (s .head)) (groupPage 1 entry 0 (s .head .serial))
     (held (headAfter (s .head) (pageDue (views m) (s .head)) (s .head .base)) (assignAll (s .index) (addressed entry (pageDue (views m) (s .head) ∷ []))) idle records) true)
 unfolding due appendStep appended isLast
 append-due {m} s K one room records =
-    page-programmed K one room (groupPage 1 entry 0 (s .head .serial)) (held (headAfter (s .head) (pageDue (views m) (s .head)) (s .head .base)) (assignAll (s .index) (addressed entry (pageDue (views m) (s .head) ∷ []))) idle records) true
+    page-programmed K one room (groupPage 1 entry 0 (s .head .serial))
+    (held (headAfter (s .head) (pageDue (views m) (s .head)) (s .head .base)) (assignAll (s .index) (addressed entry (pageDue (views m) (s .head) ∷ []))) idle records) true
 
 fill-next : {m : List ℕ} {s : Held} {h : History} → Filling m s h → roomFor (views m) (s .head) (pagesFor (length keys) + 16) ≡ true → s .head .serial + 1 ≤ 2 ^ 64 - 1 → FillNext m s
 fill-next {m} {s} {h} F room serials =

@@ -116,7 +116,8 @@ pub record Writes (m : List ℕ) (s : Held) (p : ℕ) (pg : Page) (head : Head) 
   pub goes-on : Goes m s m′ (held head index pend records) h′ finished
 
 module _ {m : List ℕ} {s : Held} {h : History} (K : Known m s h) where
-  module _ (m′ : List ℕ) (s′ : Held) (h′ : History) (finished : Bool) (t : Moment) (is : happen (world m (some s) fresh) Event.step ≡ t) (after : t .after ≡ world m′ (some s′) fresh) (tells : tell h (t .told) ≡ h′) where
+  module _ (m′ : List ℕ) (s′ : Held) (h′ : History) (finished : Bool) (t : Moment) (is : happen (world m (some s) fresh) Event.step ≡ t) (after : t .after ≡ world m′ (some s′) fresh)
+      (tells : tell h (t .told) ≡ h′) where
     reaches-on : Reached (world m′ (some s′) fresh) h′
     reaches-on = rw (← after, ← tells, ← is) (Reached.next (world m (some s) fresh) h Event.step (K .reached))
 
@@ -161,7 +162,8 @@ module _ {m : List ℕ} {s : Held} {h : History} (K : Known m s h) where
       → stepOf (length m) (views m) s fresh ≡ gives (Step.program p pg (held hd index pend records) finished)
       → Writes m s p pg hd index pend (counted h (h .underWay)) finished
   step-writes p pg hd index pend records finished e =
-      record { m′ = programmed m p pg; records = records; size = size-program p pg (held hd index pend records) finished e; sees = sees-program p pg (held hd index pend records) finished e; goes-on = programs p pg (held hd index pend records) finished e }
+      record { m′ = programmed m p pg; records = records; size = size-program p pg (held hd index pend records) finished e; sees =
+          sees-program p pg (held hd index pend records) finished e; goes-on = programs p pg (held hd index pend records) finished e }
 
   -- what an erase leaves
   module _ (b : ℕ) (s′ : Held) (finished : Bool) (e : stepOf (length m) (views m) s fresh ≡ gives (Step.erase b s′ finished)) where
@@ -178,7 +180,8 @@ module _ {m : List ℕ} {s : Held} {h : History} (K : Known m s h) where
   pub step-due : (pend : Pending) → s .pending ≡ pend → isIdle pend ≡ false → stepOf (length m) (views m) s fresh ≡ erasedFirst (views m) s (due (views m) s (bufferedIn fresh) pend)
   unfolding stepOf
   step-due pend e busy =
-      checked-pass (need 1 (sizeOk (length m)) ∷ need 7 (fitWith (views m) s fresh) ∷ need 9 (not (isIdle (s .pending))) ∷ []) (erasedFirst (views m) s (due (views m) s (bufferedIn fresh) (s .pending))) met
+      checked-pass (need 1 (sizeOk (length m)) ∷ need 7 (fitWith (views m) s fresh) ∷ need 9 (not (isIdle (s .pending))) ∷ [])
+      (erasedFirst (views m) s (due (views m) s (bufferedIn fresh) (s .pending))) met
       ∙ ap (λ (x : Pending). erasedFirst (views m) s (due (views m) s (bufferedIn fresh) x)) e
     where
       pending-busy : not (isIdle (s .pending)) ≡ true
@@ -207,7 +210,8 @@ own-step v s own e = rw e
 abbrev recording : Held → List Bool → Held
 recording s records = held (s .head) (s .index) (s .pending) records
 
-module _ {m : List ℕ} {s : Held} {h : History} (K : Known m s h) (pend : Pending) (e : s .pending ≡ pend) (busy : isIdle pend ≡ false) (p : ℕ) (pg : Page) (hd : Head) (index : List Place) (after : Pending) (finished : Bool)
+module _ {m : List ℕ} {s : Held} {h : History} (K : Known m s h) (pend : Pending) (e : s .pending ≡ pend) (busy : isIdle pend ≡ false) (p : ℕ) (pg : Page) (hd : Head) (index : List Place)
+    (after : Pending) (finished : Bool)
     (own : (records : List Bool) → due (views m) (recording s records) (bufferedIn fresh) pend ≡ gives (Step.program p pg (held hd index after records) finished)) where
   module _ (n : needsErase (views m) s ≡ true) where
     abbrev x : ℕ
@@ -221,7 +225,8 @@ module _ {m : List ℕ} {s : Held} {h : History} (K : Known m s h) (pend : Pendi
     erases-first = first-due (length m) (views m) s fresh (K .upheld .size) (fits-fresh K) n
 
     same-views : views (erased m x) ≡ views m
-    same-views = clean-same (views m) (views (erased m x)) x (needs-erase (views m) s n .cleans) (erase-cut m s fresh h (K .upheld) x (recording s records₁) (erase-known K x (recording s records₁) false erases-first))
+    same-views = clean-same (views m) (views (erased m x)) x (needs-erase (views m) s n .cleans)
+        (erase-cut m s fresh h (K .upheld) x (recording s records₁) (erase-known K x (recording s records₁) false erases-first))
 
     same-size : length (erased m x) ≡ length m
     same-size = erase-length m x (block-there m s fresh h (K .upheld) x (recording s records₁) (erase-known K x (recording s records₁) false erases-first))
@@ -237,7 +242,8 @@ module _ {m : List ℕ} {s : Held} {h : History} (K : Known m s h) (pend : Pendi
     then-writes =
         let K₁ = first-goes .knows in
         step-writes K₁ p pg hd index after records₁ finished
-        (step-due K₁ pend e busy ∙ own-step (views (erased m x)) (recording s records₁) _ once-only ∙ ap (λ (v : List View). due v (recording s records₁) (bufferedIn fresh) pend) same-views ∙ own records₁)
+        (step-due K₁ pend e busy ∙ own-step (views (erased m x)) (recording s records₁) _ once-only ∙ ap (λ (v : List View). due v (recording s records₁) (bufferedIn fresh) pend) same-views
+        ∙ own records₁)
 
     both : Writes m s p pg hd index after (counted h (h .underWay)) finished
     both =
@@ -377,7 +383,8 @@ module _ {m : List ℕ} {s : Held} {h : History} (K : Known m s h) (k : ℕ) (e 
   free : isClean (seen (views m) p) ≡ true
   free = due-page (views m) (s .head) (K .ready .heads) one-left .free
 
-  commit-due : (records : List Bool) → due (views m) (recording s records) (bufferedIn fresh) (commit k) ≡ gives (Step.program p pg (committed (recording s records) k p) (isLast k (length (s .index))))
+  commit-due : (records : List Bool) → due (views m) (recording s records) (bufferedIn fresh) (commit k) ≡ gives
+      (Step.program p pg (committed (recording s records) k p) (isLast k (length (s .index))))
   commit-due records = unfold due commitStep in page-programmed K one-left room pg (committed (recording s records) k p) (isLast k (length (s .index)))
 
   -- the head after a page of it
@@ -426,7 +433,8 @@ module _ {m : List ℕ} {s : Held} {h : History} (K : Known m s h) (k : ℕ) (e 
 
   -- a page that is not its last
   commit-goes : (j f a b : ℕ) → isLast k (length (s .index)) ≡ false
-      → ((m′ : List ℕ) (records : List Bool) (h′ : History) (K′ : Known m′ (held more-head (s .index) (commit (suc k)) records) h′) → Frame (views m′) more-head f a b → CommitDone m′ (held more-head (s .index) (commit (suc k)) records) j f a b)
+      → ((m′ : List ℕ) (records : List Bool) (h′ : History) (K′ : Known m′ (held more-head (s .index) (commit (suc k)) records) h′) → Frame (views m′) more-head f a b → CommitDone m′
+      (held more-head (s .index) (commit (suc k)) records) j f a b)
       → Frame (views m) (s .head) f a b → CommitDone m s (suc j) f a b
   unfolding headAfter
   commit-goes j f a b l ih F =
@@ -470,7 +478,8 @@ more-part : (n k j : ℕ) → pagesFor n ≡ k + suc (suc j) → isLast k n ≡ 
 unfolding pagesFor isLast
 more-part n k j e = lt-leb n (24 * suc k) (omega arith)
 
-module _ {m : List ℕ} {s : Held} {h : History} (K : Known m s h) (es : List Entry) (ps : List ℕ) (e : s .pending ≡ append es ps) (one-left : 1 ≤ available (views m) (s .head)) (room : s .head .serial + 1 ≤ 2 ^ 64 - 1) where
+module _ {m : List ℕ} {s : Held} {h : History} (K : Known m s h) (es : List Entry) (ps : List ℕ) (e : s .pending ≡ append es ps) (one-left : 1 ≤ available (views m) (s .head))
+    (room : s .head .serial + 1 ≤ 2 ^ 64 - 1) where
   abbrev place : ℕ
   place = pageDue (views m) (s .head)
 
@@ -480,13 +489,15 @@ module _ {m : List ℕ} {s : Held} {h : History} (K : Known m s h) (es : List En
   abbrev head-after : Head
   head-after = headAfter (s .head) place (s .head .base)
 
-  append-due : (records : List Bool) → due (views m) (recording s records) (bufferedIn fresh) (append es ps) ≡ gives (Step.program place group-page (appended (recording s records) es ps place) (isLast (length ps) (length es)))
+  append-due : (records : List Bool) → due (views m) (recording s records) (bufferedIn fresh) (append es ps) ≡ gives
+      (Step.program place group-page (appended (recording s records) es ps place) (isLast (length ps) (length es)))
   append-due records = unfold due appendStep in page-programmed K one-left room group-page (appended (recording s records) es ps place) (isLast (length ps) (length es))
 
   -- its last page
   append-ends : isLast (length ps) (length es) ≡ true → AppendDone m s
   append-ends l =
-      let W = writes K (append es ps) e (unfold isIdle in refl) place group-page head-after (assignAll (s .index) (addressed es (ps ++ (place ∷ [])))) idle true (λ records. append-due records ∙ (unfold appended in rw l)) in
+      let W = writes K (append es ps) e (unfold isIdle in refl) place group-page head-after (assignAll (s .index) (addressed es (ps ++ (place ∷ [])))) idle true
+      (λ records. append-due records ∙ (unfold appended in rw l)) in
       record { end = _; run = W .goes-on .ends-here refl }
 
   -- a page that is not its last
@@ -509,7 +520,8 @@ pub append-runs : (j : ℕ) {m : List ℕ} {s : Held} {h : History} (K : Known m
 append-runs zero {m} {s} {h} K es ps e left many room = append-ends K es ps e (omega arith) (omega arith) (last-part (length es) (length ps) left)
 append-runs (suc j) {m} {s} {h} K es ps e left many room =
     append-goes K es ps e (omega arith) (omega arith) (suc j) (more-part (length es) (length ps) j left) many
-    (λ m′ records h′ K′ many′. append-runs j K′ es (ps ++ (place K es ps e (omega arith) (omega arith) ∷ [])) refl (longer (place K es ps e (omega arith) (omega arith))) many′ (unfold headAfter in omega arith))
+    (λ m′ records h′ K′ many′. append-runs j K′ es (ps ++ (place K es ps e (omega arith) (omega arith) ∷ [])) refl (longer (place K es ps e (omega arith) (omega arith))) many′
+    (unfold headAfter in omega arith))
   where
     longer : (p : ℕ) → pagesFor (length es) ≡ length (ps ++ (p ∷ [])) + suc j
     longer p = omega (arith, length-append ps (p ∷ []))
@@ -557,7 +569,8 @@ module _ {m : List ℕ} {s : Held} {h : History} (K : Known m s h) (b : ℕ) (e 
   -- the erase
   erase-due : live (s .index) b ≡ [] → stepOf (length m) (views m) s fresh ≡ gives (Step.erase b (erasing s b idle) true)
   erase-due q =
-      step-due K (collect b) e (unfold isIdle in refl) ∙ first-none (views m) s _ (ap (programsDue (s .index)) e ∙ (unfold programsDue in rw q)) ∙ (unfold due in (ap (collectStep (views m) s b) q ∙ (unfold collectStep in refl)))
+      step-due K (collect b) e (unfold isIdle in refl) ∙ first-none (views m) s _ (ap (programsDue (s .index)) e ∙ (unfold programsDue in rw q)) ∙
+      (unfold due in (ap (collectStep (views m) s b) q ∙ (unfold collectStep in refl)))
 
   module _ (q : live (s .index) b ≡ []) where
     abbrev w : List View
@@ -587,7 +600,8 @@ module _ {m : List ℕ} {s : Held} {h : History} (K : Known m s h) (b : ℕ) (e 
     unfolding available
     supply-erased =
         let c = collects (views m) (s .head) b fits-block in
-        let k = count-more (s .head .blocks) (spare (views m) (s .head .block)) (spare w (s .head .block)) b (c .inside) (not-spare (c .used)) (spare-is w (s .head .block) b not-head block-clean) (λ i l y. stays (c .used) i y) in
+        let k = count-more (s .head .blocks) (spare (views m) (s .head .block)) (spare w (s .head .block)) b (c .inside) (not-spare (c .used)) (spare-is w (s .head .block) b not-head block-clean)
+        (λ i l y. stays (c .used) i y) in
         omega (arith, k)
       where
         not-spare : whollyClean (views m) b ≡ false → spare (views m) (s .head .block) b ≡ false
@@ -660,7 +674,8 @@ module _ {m : List ℕ} {s : Held} {h : History} (K : Known m s h) (b : ℕ) (e 
     moved-out : length (live (assignAll (s .index) (addressed moves (at ∷ []))) b) + length moves ≡ length l
     moved-out =
         ap (λ (t : List Place). length (live (assignAll (s .index) t) b) + length moves) (addressed-one moves at taken)
-        ∙ moves-out b at (s .index) moves rises members (subst (λ (x : List Place). all (inBlock b) (take 24 x) ≡ true) q (all-take (inBlock b) 24 (live (s .index) b) (live-in-block (s .index) b))) valved
+        ∙ moves-out b at (s .index) moves rises members (subst (λ (x : List Place). all (inBlock b) (take 24 x) ≡ true) q
+        (all-take (inBlock b) 24 (live (s .index) b) (live-in-block (s .index) b))) valved
         (rw q at (unique-live (s .index) b 24 rises)) taken (due-outside (views m) (s .head) b at which-page fits-block)
         ∙ ap length q
 
@@ -699,10 +714,12 @@ module _ {m : List ℕ} {s : Held} {h : History} (K : Known m s h) (b : ℕ) (e 
 
 module _ {m : List ℕ} {s : Held} {h : History} (K : Known m s h) (b : ℕ) (e : s .pending ≡ collect b) where
   collect-writes : (x : Place) (xs : List Place) (q : live (s .index) b ≡ x ∷ xs) (many : 1 ≤ length (x ∷ xs)) (room : s .head .serial + 1 ≤ 2 ^ 64 - 1)
-      → Writes m s (at K b e (x ∷ xs) q many room) (text K b e (x ∷ xs) q many room) (moved-head K b e (x ∷ xs) q many room) (moved-index K b e (x ∷ xs) q many room) (collect b) (counted h (h .underWay)) false
+      → Writes m s (at K b e (x ∷ xs) q many room) (text K b e (x ∷ xs) q many room) (moved-head K b e (x ∷ xs) q many room) (moved-index K b e (x ∷ xs) q many room) (collect b)
+      (counted h (h .underWay)) false
   unfolding due collectStep collected
   collect-writes x xs q many room =
-      writes K (collect b) e (unfold isIdle in refl) (at K b e (x ∷ xs) q many room) (text K b e (x ∷ xs) q many room) (moved-head K b e (x ∷ xs) q many room) (moved-index K b e (x ∷ xs) q many room) (collect b) false
+      writes K (collect b) e (unfold isIdle in refl) (at K b e (x ∷ xs) q many room) (text K b e (x ∷ xs) q many room) (moved-head K b e (x ∷ xs) q many room)
+      (moved-index K b e (x ∷ xs) q many room) (collect b) false
       (λ records. ap (collectStep (views m) (recording s records) b) q ∙ move-due K b e (x ∷ xs) q many room records)
 
   -- one step, and the rest
@@ -712,7 +729,8 @@ module _ {m : List ℕ} {s : Held} {h : History} (K : Known m s h) (b : ℕ) (e 
   collect-steps j u few room [] q ih = collect-ends K b e q (suc j)
   collect-steps j u few room (x ∷ xs) q ih =
       collect-goes K b e (x ∷ xs) q (omega arith) (omega arith) j u (collect-writes x xs q (omega arith) (omega arith))
-      (λ m′ records K′. ih m′ (moved-state K b e (x ∷ xs) q (omega arith) (omega arith) records) K′ refl (omega (arith, few, fewer, ap (λ (z : List Place). pagesFor (length z)) q)) (unfold headAfter in omega arith))
+      (λ m′ records K′. ih m′ (moved-state K b e (x ∷ xs) q (omega arith) (omega arith) records) K′ refl (omega (arith, few, fewer, ap (λ (z : List Place). pagesFor (length z)) q))
+      (unfold headAfter in omega arith))
     where
       fewer : pagesFor (length (live (assignAll (s .index) (addressed (take 24 (x ∷ xs)) (pageDue (views m) (s .head) ∷ []))) b)) + 1 ≤ pagesFor (length (x ∷ xs))
       fewer = fewer-pages K b e (x ∷ xs) q (omega arith) (omega arith) _ (moved-out K b e (x ∷ xs) q (omega arith) (omega arith))

@@ -68,7 +68,8 @@ module _ (v : List View) (s : Held) (b : List ℕ) (p : ℕ) (pg : Page) (t : He
 pub programs-as-lent : ProgramsAsLent
 unfolding ProgramsAsLent stepOf
 programs-as-lent n v s b p pg t f bytes e =
-    checked-cases (λ (st : Answer Step). st ≡ gives (Step.program p pg t f) → encode pg ≡ withCheck (putAt b 8 (bytesOf 8 (s .head .serial)))) (need 1 (sizeOk n) ∷ need 7 (fitWith v s b) ∷ need 9 (not (isIdle (s .pending))) ∷ [])
+    checked-cases (λ (st : Answer Step). st ≡ gives (Step.program p pg t f) → encode pg ≡ withCheck (putAt b 8 (bytesOf 8 (s .head .serial))))
+    (need 1 (sizeOk n) ∷ need 7 (fitWith v s b) ∷ need 9 (not (isIdle (s .pending))) ∷ [])
     (erasedFirst v s (due v s (bufferedIn b) (s .pending))) (λ k q. let z : _≡_ {A = ℕ} 0 1 = cc in absurd (omega arith))
     (λ c q. same (lent (unfold tests in every-at 1 _ c)) (first-cases (Laid v s b p pg t f) v s
     (due v s (bufferedIn b) (s .pending)) (λ r. erase-laid v s b p pg t f _ _ _) (λ r. due-laid v s b p pg t f (s .pending) e) q))

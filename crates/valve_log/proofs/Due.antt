@@ -289,7 +289,8 @@ pub step-good : (n : ℕ) (v : List View) (s : Held) (b : List ℕ) (h : History
 unfolding stepOf
 step-good n v s b h texts few c L =
     checked-cases (Good v s b h) (need 1 (sizeOk n) ∷ need 7 (fitWith v s b) ∷ need 9 (not (isIdle (s .pending))) ∷ []) (erasedFirst v s (due v s (bufferedIn b) (s .pending))) (refused-good v s b h)
-    (λ e. let w : fitWith v s b ≡ true = unfold tests in every-at 1 _ e in let F = fits v s (state-fit v s b w) in first-good v s b h (due v s (bufferedIn b) (s .pending)) c L F (with-state (alive-of (c .memory)) w F))
+    (λ e. let w : fitWith v s b ≡ true = unfold tests in every-at 1 _ e in let F =
+    fits v s (state-fit v s b w) in first-good v s b h (due v s (bufferedIn b) (s .pending)) c L F (with-state (alive-of (c .memory)) w F))
   where
     with-state : Alive v s (h .underWay) (c .b) (c .ch) (c .gs) (c .idx) → fitWith v s b ≡ true → Fits v s → Good v s b h (due v s (bufferedIn b) (s .pending))
     with-state a w F =

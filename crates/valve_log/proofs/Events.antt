@@ -171,7 +171,8 @@ module _ (m : List ℕ) (s : Held) (b : List ℕ) (h : History) (U : Upheld (wor
   buffer-good : (ks ws : List ℕ) → Below (2 ^ 16) ks → Below (2 ^ 64) ws → Follows h (filled (world m (some s) b) (putIn (zip ks ws)) (bufferOf (length m) (views m) s b ks ws))
   unfolding bufferOf tests
   buffer-good ks ws x y =
-      checked-cases (λ (r : Answer (List ℕ)). Follows h (filled (world m (some s) b) (putIn (zip ks ws)) r)) (bufferNeeds (length m) (views m) s b ks ws) (gives (holding (bufferedIn b ++ (zip ks ws ∷ []))))
+      checked-cases (λ (r : Answer (List ℕ)). Follows h (filled (world m (some s) b) (putIn (zip ks ws)) r)) (bufferNeeds (length m) (views m) s b ks ws)
+      (gives (holding (bufferedIn b ++ (zip ks ws ∷ []))))
       (λ n. unfold filled tell in U) (λ e. unfold filled tell in after e)
     where
       lends : every (tests (bufferNeeds (length m) (views m) s b ks ws)) ≡ true

@@ -74,7 +74,8 @@ step-one : (n : ℕ) (v : List View) (s : Held) (bs : List ℕ) → Ready v s �
 unfolding stepOf
 step-one n v s bs r =
     checked-cases (Unfinished v s) _ _ (refused-no v s)
-    (λ e. first-cases (Unfinished v s) v s (due v s (bufferedIn bs) (s .pending)) (λ q. unfold Unfinished in record { needs = q; named = refl; after = refl }) (λ q. due-one v s (bufferedIn bs) (s .pending) refl r))
+    (λ e. first-cases (Unfinished v s) v s (due v s (bufferedIn bs) (s .pending)) (λ q. unfold Unfinished in record { needs = q; named = refl; after = refl })
+    (λ q. due-one v s (bufferedIn bs) (s .pending) refl r))
 
 -- ---- a step that is no erase
 

@@ -259,13 +259,15 @@ module _ (v : List View) (s : Held) (h : History) (c : Coupled v (some s) h) (r 
             left = left-append (set v p (whole (groupPage 1 es (length ps) (s .head .serial)))) (headAfter (s .head) p (s .head .base)) (s .index) es (ps ++ (p ∷ [])) (omega (arith, lefts));
           })
         where
-          pend-more : isLast (length ps) (length es) ≡ false → pendingFit (set v p (whole (groupPage 1 es (length ps) (s .head .serial)))) (headAfter (s .head) p (s .head .base)) (s .index) (append es (ps ++ (p ∷ []))) ≡ true
+          pend-more : isLast (length ps) (length es) ≡ false → pendingFit (set v p (whole (groupPage 1 es (length ps) (s .head .serial)))) (headAfter (s .head) p (s .head .base)) (s .index)
+              (append es (ps ++ (p ∷ []))) ≡ true
           pend-more l =
               let n : length (ps ++ (p ∷ [])) ≡ suc (length ps) = omega (arith, length-append ps (p ∷ [])) in
               let k : length ps < s .head .serial = unfold pendingFit doneFit in ltb-true (length ps) (s .head .serial) (every-at 0 _ (every-at 1 _ pends)) in
               let g : groupOk (s .index) es ≡ true = unfold pendingFit in every-at 0 _ pends in
               let m = more-pages (length es) (length ps) l in
-              fit-append (set v p (whole (groupPage 1 es (length ps) (s .head .serial)))) (headAfter (s .head) p (s .head .base)) (s .index) es (ps ++ (p ∷ [])) g (omega (arith, head-after-serial (s .head) p (s .head .base))) (omega arith)
+              fit-append (set v p (whole (groupPage 1 es (length ps) (s .head .serial)))) (headAfter (s .head) p (s .head .base)) (s .index) es (ps ++ (p ∷ [])) g
+              (omega (arith, head-after-serial (s .head) p (s .head .base))) (omega arith)
 
   commit-ready : (k : ℕ) → s .pending ≡ commit k → StepReady v (commitStep v s k)
   unfolding commitStep
@@ -302,10 +304,12 @@ module _ (v : List View) (s : Held) (h : History) (c : Coupled v (some s) h) (r 
             left = unfold Left in omega (arith, lefts);
           })
         where
-          pend-more : isLast k (length (s .index)) ≡ false → pendingFit (set v p (whole (groupPage 2 (s .index) k (s .head .serial)))) (headAfter (s .head) p (s .head .base)) (s .index) (commit (suc k)) ≡ true
+          pend-more : isLast k (length (s .index)) ≡ false → pendingFit (set v p (whole (groupPage 2 (s .index) k (s .head .serial)))) (headAfter (s .head) p (s .head .base)) (s .index)
+              (commit (suc k)) ≡ true
           pend-more l =
               let q : k < s .head .serial = unfold pendingFit doneFit in ltb-true k (s .head .serial) (every-at 0 _ pends) in
-              fit-commit (set v p (whole (groupPage 2 (s .index) k (s .head .serial)))) (headAfter (s .head) p (s .head .base)) (s .index) (suc k) (omega (arith, head-after-serial (s .head) p (s .head .base))) (more-base (length (s .index)) k l)
+              fit-commit (set v p (whole (groupPage 2 (s .index) k (s .head .serial)))) (headAfter (s .head) p (s .head .base)) (s .index) (suc k)
+              (omega (arith, head-after-serial (s .head) p (s .head .base))) (more-base (length (s .index)) k l)
 
   -- the nodes moved leave the block, and a page fewer is wanted
   move-ready : (b : ℕ) (l : List Place) → s .pending ≡ collect b → live (s .index) b ≡ l → 1 ≤ length l → StepReady v (moveStep v s b (take 24 l))
@@ -364,7 +368,8 @@ module _ (v : List View) (s : Held) (h : History) (c : Coupled v (some s) h) (r 
             size = unfold headAfter in grown-size (whole (page 3 3 (s .head .serial) (words v (take 24 l))));
             heads = ready-after v (s .head) p (s .head .base) (whole (page 3 3 (s .head .serial) (words v (take 24 l)))) (r .heads) w;
             pend = unfold pendingFit in stays-collectible v (s .head) b p (whole (page 3 3 (s .head .serial) (words v (take 24 l)))) n fits;
-            left = left-collect (set v p (whole (page 3 3 (s .head .serial) (words v (take 24 l))))) (headAfter (s .head) p (s .head .base)) (assignAll (s .index) (addressed (take 24 l) (p ∷ []))) b (omega (arith, lefts));
+            left = left-collect (set v p (whole (page 3 3 (s .head .serial) (words v (take 24 l))))) (headAfter (s .head) p (s .head .base))
+                (assignAll (s .index) (addressed (take 24 l) (p ∷ []))) b (omega (arith, lefts));
           })
 
   -- an erase leaves the head's clean pages clean

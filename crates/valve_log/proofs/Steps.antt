@@ -456,7 +456,8 @@ module _ (v : List View) (s : Held) (h : History) {ch : List Placed} {gs : List 
           gs = group 2 stored ∷ [];
           idx = s .index;
           medium = cm-sound e;
-          memory = alive {s = held (headAfter (s .head) p (s .head .serial - length ps)) (s .index) idle (s .erased)} (record { serials = omega arith; bases = omega arith; indices = refl; pends = at-rest });
+          memory = alive {s = held (headAfter (s .head) p (s .head .serial - length ps)) (s .index) idle (s .erased)}
+              (record { serials = omega arith; bases = omega arith; indices = refl; pends = at-rest });
         })
 
   -- ---- a page of a collection
