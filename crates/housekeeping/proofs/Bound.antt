@@ -154,8 +154,15 @@ module _ {m : List ℕ} {s : Held} {h : History} (K : Known m s h) (rests : s .p
   unfolding commitOf
   commit-begins a b =
       checked-pass (commitNeeds (length m) (views m) s fresh) (gives (starting s (commit 0)))
-      (unfold every tests roomFor serialsFor in rw (K .upheld .size, fits-fresh K, is-idle, none-buffered, le-leb (basePages (length (s .index))) (available (views m) (s .head)) a, le-leb
-      (s .head .serial + basePages (length (s .index))) (2 ^ 64 - 1) b))
+      (unfold every tests roomFor serialsFor in rw (
+        K .upheld .size,
+        fits-fresh K,
+        is-idle,
+        none-buffered,
+        le-leb (basePages (length (s .index))) (available (views m) (s .head)) a,
+        le-leb
+            (s .head .serial + basePages (length (s .index))) (2 ^ 64 - 1) b,
+      ))
 
   collect-begins : (b : ℕ) → collectible (views m) (s .head) b ≡ true → pagesFor (length (live (s .index) b)) ≤ available (views m) (s .head)
       → s .head .serial + pagesFor (length (live (s .index) b)) ≤ 2 ^ 64 - 1
@@ -228,8 +235,14 @@ collect-first : {ks ws : List ℕ} {a b : ℕ} (w w′ : World) (x : ℕ) → na
     → Bounded ks ws a (suc b) w
 unfolding commitsIn collectionsIn
 collect-first w w′ x n F B =
-    record { operations = Next.collect x ∷ B .operations; end = B .end; few-commits = B .few-commits; few-collections = omega (arith, B .few-collections); admits =
-        collects w w′ (B .end) x n F (B .admits) }
+    record {
+      operations = Next.collect x ∷ B .operations;
+      end = B .end;
+      few-commits = B .few-commits;
+      few-collections = omega (arith, B .few-collections);
+      admits =
+          collects w w′ (B .end) x n F (B .admits);
+    }
 
 -- ---- the group is let in
 

@@ -45,8 +45,12 @@ module _ (v : List View) (h : Head) (index : List Place) where
       by-cases (collectible v h n)
       (λ e. by-cases (ltb (length (live index n)) (length (live index a)))
       (λ k. rw (e, k) (best {b = n} (record { inside = omega arith; fits = e; least = λ x l c. fewer (ltb-true (length (live index n)) (length (live index a)) k) x c (ℕ-discrete x n) l })))
-      (λ k. rw (e, k) (best {b = a} (record { inside = omega (arith, B .inside); fits = B .fits; least =
-      λ x l c. same (ltb-false (length (live index n)) (length (live index a)) k) x c (ℕ-discrete x n) l }))))
+      (λ k. rw (e, k) (best {b = a} (record {
+        inside = omega (arith, B .inside);
+        fits = B .fits;
+        least =
+            λ x l c. same (ltb-false (length (live index n)) (length (live index a)) k) x c (ℕ-discrete x n) l;
+      }))))
       (λ e. rw e (best {b = a} (record { inside = omega (arith, B .inside); fits = B .fits; least = λ x l c. apart e x c (ℕ-discrete x n) l })))
     where
       fewer : length (live index n) < length (live index a) → (x : ℕ) → collectible v h x ≡ true → Dec (x ≡ n) → x < suc n → length (live index n) ≤ length (live index x)

@@ -162,8 +162,14 @@ module _ {m : List ℕ} {s : Held} {h : History} (K : Known m s h) where
       → stepOf (length m) (views m) s fresh ≡ gives (Step.program p pg (held hd index pend records) finished)
       → Writes m s p pg hd index pend (counted h (h .underWay)) finished
   step-writes p pg hd index pend records finished e =
-      record { m′ = programmed m p pg; records = records; size = size-program p pg (held hd index pend records) finished e; sees =
-          sees-program p pg (held hd index pend records) finished e; goes-on = programs p pg (held hd index pend records) finished e }
+      record {
+        m′ = programmed m p pg;
+        records = records;
+        size = size-program p pg (held hd index pend records) finished e;
+        sees =
+            sees-program p pg (held hd index pend records) finished e;
+        goes-on = programs p pg (held hd index pend records) finished e;
+      }
 
   -- what an erase leaves
   module _ (b : ℕ) (s′ : Held) (finished : Bool) (e : stepOf (length m) (views m) s fresh ≡ gives (Step.erase b s′ finished)) where
