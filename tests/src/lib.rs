@@ -19,11 +19,14 @@
 //! * [`run`]: whole operations from C, over a chip whose driver can fail.
 //! * [`stack`]: how much stack a call takes.
 //! * [`tight`]: recovery as tight as it can be written, the yardstick for times.
+//! * [`trace`]: recorded runs, their form, and what is printed for them;
+//!   [`corners`]: those made by hand.
 
 #![deny(unsafe_code)]
 
 pub mod before;
 pub mod calls;
+pub mod corners;
 pub mod dispatcher;
 pub mod effects;
 pub mod grown;
@@ -39,6 +42,7 @@ pub mod run;
 #[allow(unsafe_code)]
 pub mod stack;
 pub mod tight;
+pub mod trace;
 #[allow(unsafe_code)]
 #[path = "../../include/valve_journal.rs"]
 pub mod valve_journal;

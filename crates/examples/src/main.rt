@@ -165,11 +165,39 @@ fn lengths() {
     rule_1(b"condition 1 for 1052672 bytes: ", 1052672);
 }
 
+// The page programmed last: it stands before the head's next.
+fn last_page(s: State) -> usize {
+    let h = s.head;
+    if 256 <= h.block {
+        return 0;
+    }
+    if 16 < h.next {
+        return 0;
+    }
+    if h.next < 1 {
+        return 0;
+    }
+    16 * h.block + (h.next - 1)
+}
+
+// The first block with the record that it was erased; 256 where none has it.
+fn erased_block(s: State) -> usize {
+    let erased = s.erased;
+    let mut b: usize = 0;
+    while b < 256 {
+        if erased[b] == 1 {
+            return b;
+        }
+        b += 1;
+    }
+    b
+}
+
 // 30 entries, cut after their first page.
 fn cut() {
     let mut m = [255u8; 16384];
     let t = trials::play(&mut m, &[FORMATTED, VALVES, 30, 1, STEP]);
-    line(b"30 entries cut after page ", t.touched as u64);
+    line(b"30 entries cut after page ", last_page(t.state) as u64);
     show::medium(&m);
 }
 
@@ -191,9 +219,12 @@ fn next_append() {
     ];
     let mut m = [255u8; 16384];
     let t = trials::play(&mut m, &calls[..11]);
-    line(b"the next append erases block ", t.touched as u64);
+    line(
+        b"the next append erases block ",
+        erased_block(t.state) as u64,
+    );
     let u = trials::play(&mut m, &calls);
-    let p = u.touched;
+    let p = last_page(u.state);
     part(b"it starts in block ", (p / 16) as u64);
     part(b", page ", (p % 16) as u64);
     line(b", serial ", flash::page_serial(&m, p));
@@ -287,7 +318,7 @@ fn recovered() {
 fn committed() {
     let mut m = [255u8; 16384];
     let t = sample(&mut m, 13);
-    line(b"after a commit to page ", t.touched as u64);
+    line(b"after a commit to page ", last_page(t.state) as u64);
     show::medium(&m);
     first_block(&m, t.state);
 }

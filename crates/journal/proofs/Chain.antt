@@ -49,18 +49,18 @@ use Rattle.journal.specs.Run.{finishedBy, meanwhileBy, Formatting, Run, 
 -- ---- one event
 
 -- a number that is none
-none-such : {P : Type 0} (n : ℕ) → eqb n 0 ≡ false → n ≡ 0 → P
+pub none-such : {P : Type 0} (n : ℕ) → eqb n 0 ≡ false → n ≡ 0 → P
 none-such n q z = true-false (eq-eqb n 0 z) q
 
 -- a call that begins an operation
-begins : (m : List ℕ) (s : State) (b : List ℕ) (t : Told) (c : Answer Held) (r : Begun) → begun.Begins s c r
+pub begins : (m : List ℕ) (s : State) (b : List ℕ) (t : Told) (c : Answer Held) (r : Begun) → begun.Begins s c r
     → world m (some (meaning (r .state))) b ≡ called (world m (some (meaning s)) b) t c .after
 unfolding called
 begins m s b t (refused n) r p = ap (λ (x : State). world m (some (meaning x)) b) (p .back (none-such (r .number) (refused-with (r .number) (meaning (r .state)) n (p .is))))
 begins m s b t (gives h) r p = ap (λ (x : Held). world m (some x) b) (gave-value (r .number) (meaning (r .state)) h (p .is))
 
 -- a group put into the buffer
-fills : (m : List ℕ) (s : State) (b : List ℕ) (t : Told) (c : Answer (List ℕ)) (r : ℕ) (b′ : List ℕ) → begun.filled r b′ ≡ begun.filledBy b c
+pub fills : (m : List ℕ) (s : State) (b : List ℕ) (t : Told) (c : Answer (List ℕ)) (r : ℕ) (b′ : List ℕ) → begun.filled r b′ ≡ begun.filledBy b c
     → world m (some (meaning s)) b′ ≡ filled (world m (some (meaning s)) b) t c .after
 unfolding filled
 fills m s b t (refused n) r b′ e = ap (λ (x : begun.Filled). world m (some (meaning s)) (x .buffer)) e
@@ -91,7 +91,7 @@ left m s b (refused n) = refl
 left m s b (gives (Step.program p pg x finished)) = refl
 left m s b (gives (Step.erase c x finished)) = refl
 
-steps : (m m′ : List ℕ) (s : State) (b b′ : List ℕ) (t : Answer Step) (r : Stepped) → outcome r m′ ≡ performed m s t → b′ ≡ bufferAfter b t
+pub steps : (m m′ : List ℕ) (s : State) (b b′ : List ℕ) (t : Answer Step) (r : Stepped) → outcome r m′ ≡ performed m s t → b′ ≡ bufferAfter b t
     → world m′ (some (meaning (r .state))) b′ ≡ stepped (world m (some (meaning s)) b) t .after
 unfolding performed
 steps m m′ s b b′ t r e f =
@@ -132,7 +132,7 @@ moves x y e (Moves.cutInside m left s b allowed) = cuts (world m (some (meaning 
 -- ---- what the answers say
 
 -- a refusal of the buffer's call has a number
-unfoldable numbered : Answer (List ℕ) → Bool
+unfoldable pub numbered : Answer (List ℕ) → Bool
 numbered (refused n) = not (eqb n 0)
 numbered (gives b) = true
 
@@ -143,7 +143,7 @@ all-numbered (x ∷ xs) c k a =
     by-cases (x .holds) (λ q. rw q (all-numbered xs c k (all-tail (λ (y : Need). not (eqb (y .number) 0)) x xs a)))
     (λ q. rw q (unfold numbered in all-head (λ (y : Need). not (eqb (y .number) 0)) x xs a))
 
-buffer-numbered : (n : ℕ) (v : List View) (s : Held) (b ks ws : List ℕ) → numbered (bufferOf n v s b ks ws) ≡ true
+pub buffer-numbered : (n : ℕ) (v : List View) (s : Held) (b ks ws : List ℕ) → numbered (bufferOf n v s b ks ws) ≡ true
 unfolding bufferOf
 buffer-numbered n v s b ks ws = all-numbered (bufferNeeds n v s b ks ws) _ (unfold numbered in refl) (unfold all in refl)
 
@@ -202,7 +202,7 @@ due-finished s (gives (Step.program p pg x finished)) = refl
 due-finished s (gives (Step.erase b x finished)) = refl
 
 module _ (m m′ : List ℕ) (s : State) (t : Answer Step) (r : Stepped) (e : outcome r m′ ≡ performed m s t) where
-  done-is : doneOf r ≡ some (done s t)
+  pub done-is : doneOf r ≡ some (done s t)
   unfolding performed
   done-is = ap (λ (o : Outcome). o .done) e
 

@@ -6,6 +6,7 @@ use trials::BUFFER_VALVES;
 use trials::BYTE;
 use trials::COLLECT;
 use trials::COMMIT;
+use trials::CUT;
 use trials::FORMATTED;
 use trials::PUT;
 use trials::RECOVER;
@@ -166,6 +167,35 @@ fn buffers() {
     );
 }
 
+// Whether a trace has the form; 26 is its negation.
+fn say_form(text: &[u8], t: &[u8]) {
+    if trace::is_well_formed(t) {
+        show::answer(text, 0);
+        return;
+    }
+    show::answer(text, 26);
+}
+
+// 26: the trace of one call, a format of 4 blocks, with a byte after it; and of 3 blocks.
+fn traces() {
+    let mut t = [0u8; 25];
+    t[0] = 1;
+    t[8] = 1;
+    t[16] = 4;
+    say_form(b"26 a trace of one format, and a byte: ", &t);
+    t[16] = 3;
+    say_form(b"26 a trace that formats 3 blocks: ", &t[..24]);
+}
+
+// 27: a cut where no step is due, and one that names another page than the step due programs.
+fn cuts() {
+    say(b"27 format, then a cut of page 1: ", &[FORMATTED, CUT, 1]);
+    say(
+        b"27 append begun, then a cut of page 2: ",
+        &[FORMATTED, APPEND, 1, 5, 1000, CUT, 2],
+    );
+}
+
 fn main() {
     three_blocks();
     pages();
@@ -179,4 +209,6 @@ fn main() {
     unset_valve();
     log_spans();
     buffers();
+    traces();
+    cuts();
 }

@@ -1,27 +1,23 @@
 -- Playing a list of calls, as far as it is promised.
-use mathlib.Core.Path.{_≡_, refl, sym, _∙_}
-use mathlib.Core.List.{List, []}
+use mathlib.Core.Path.{_≡_, refl}
+use mathlib.Core.List.{List}
 use Prim.Native.Nat.{ℕ, _≤_, _<_}
 use native.Mathlib.Omega.{arith}
-use lib.ListN.{length}
-use borrow.Author.Tests.{eq-eqb}
-use Rattle.lists.specs.Lists.{every}
-use Rattle.lists.specs.Needs.{under}
-use Rattle.lists.proofs.Laws.{true-false, same-refusal, answered-refused, refused-with}
-use Rattle.blocks.specs.Blocks.{sizeOk}
-use Rattle.state.specs.State.{meaning}
-use Rattle.calls.specs.Calls.{formatOf}
-use Rattle.begin.specs.declared.Begun.{Begun}
-use Rattle.begin.specs.Begun.{Formats}
+use lib.Dec.{ltb}
+use lib.ListN.{length, take}
+use Rattle.lists.proofs.Laws.{by-cases, length-taken}
+use Rattle.trace.specs.Trace.{patternSize}
 use Rattle.trials.specs.declared.Trial.{Trial}
 use Rattle.trials.specs.Played.{Played}
 
--- a medium of no bytes cannot be formatted
-pub nothing-formatted : (b : Begun) (t : Trial) → Formats [] b → t .number ≡ b .number → t .number ≡ 1
-unfolding formatOf under sizeOk every
-nothing-formatted b t f e =
-    let q = refused-with (b .number) (meaning (b .state)) 1 f in
-    e ∙ same-refusal (b .number) 1 (sym (answered-refused (b .number) (meaning (b .state)) (λ z. true-false (eq-eqb (b .number) 0 z) q)) ∙ f)
+-- a pattern's bytes
+pub pattern-most : (n p : ℕ) → p ≡ patternSize n → p ≤ 4096
+unfolding patternSize
+pattern-most n p e = by-cases (ltb n 256) (λ q. let k : p ≡ 256 = rw q at e in omega arith) (λ q. let k : p ≡ 4096 = rw q at e in omega arith)
+
+-- and the first so many of an array
+pub length-pattern : (n p : ℕ) (xs : List ℕ) → p ≡ patternSize n → length xs ≡ 4096 → p ≡ length (take p xs)
+length-pattern n p xs e l = length-taken p 4096 xs (pattern-most n p e) l
 
 -- after the calls before place i, of which there are none at first
 pub record Playing (m₀ calls : List ℕ) (m : List ℕ) (number i : ℕ) : Type 0 where
@@ -35,6 +31,9 @@ play-starts m calls n e = record { long = refl; far = omega arith; kept = λ z. 
 
 pub play-goes-on : (m₀ calls m m′ : List ℕ) (n n′ i e : ℕ) → Playing m₀ calls m n i → length m′ ≡ length m → i < e → e ≤ length calls → Playing m₀ calls m′ n′ e
 play-goes-on m₀ calls m m′ n n′ i e p l h g = record { long = omega (arith, p .long, l); far = g; kept = λ z. absurd (omega arith); answered = λ z. absurd (omega arith) }
+
+pub play-none : (m calls : List ℕ) (t : Trial) → t .number ≡ 1 → Played m calls t m
+play-none m calls t e = record { long = refl; kept = λ z. refl; answered = λ z. e }
 
 pub play-ends : (m₀ calls m : List ℕ) (t : Trial) (i : ℕ) → length calls ≤ i → Playing m₀ calls m (t .number) i → Played m₀ calls t m
 play-ends m₀ calls m t i h p = record { long = p .long; kept = λ z. p .kept (omega (arith, z)); answered = λ z. p .answered (omega (arith, z)) }

@@ -1,34 +1,39 @@
-// Calls of the journal as a list of numbers, played on a lent medium and write buffer, for the programs that run the papers' examples.
+// Calls of the journal as a list of numbers, played one by one on a lent medium and write buffer, for the programs that run the papers' examples.
 ghost use mathlib.Core.Path.{_≡_};
 ghost use Prim.Native.Nat.{_<_, _≤_};
 ghost use lib.ListN.{length};
+ghost use Rattle.page.specs.Buffer.{bufferBytes};
 ghost use Rattle.trials.specs.Played.{Played};
-use begin::Begun;
+use player::LastState;
+use player::Reply;
 use state::State;
 
-// Codes of calls. The last digit of a code is the call; here formatting begins.
-pub const FORMAT: u64 = 1;
+// Codes of calls. The last digit of a code is the call, as in a trace. Here formatting begins.
+pub const FORMAT: u64 = trace::FORMAT;
 
 // APPEND, n, n keys, n words: an append begins, of 97 entries at most.
-pub const APPEND: u64 = 2;
+pub const APPEND: u64 = trace::APPEND;
 
 // A commit begins.
-pub const COMMIT: u64 = 3;
+pub const COMMIT: u64 = trace::COMMIT;
 
 // COLLECT, block: a collection begins.
-pub const COLLECT: u64 = 4;
+pub const COLLECT: u64 = trace::COLLECT;
 
 // One step of the pending operation, unless the call before it was refused.
-pub const STEP: u64 = 5;
+pub const STEP: u64 = trace::STEP;
+
+// CUT, page or 256 + block: the step due is cut, with a pattern of no 1 bits.
+pub const CUT: u64 = trace::CUT;
 
 // Recovery: its state takes the place of the last.
-pub const RECOVER: u64 = 7;
+pub const RECOVER: u64 = trace::RECOVER;
 
 // BUFFER, n, n keys, n words: a group is put into the write buffer, of 97 entries at most.
-pub const BUFFER: u64 = 8;
+pub const BUFFER: u64 = trace::BUFFER;
 
 // A flush begins.
-pub const FLUSH: u64 = 9;
+pub const FLUSH: u64 = trace::FLUSH;
 
 // A code that is 10 more is the call with its steps until the operation is over, 20 at most, for media of 16 blocks at most: their formatting takes 17. Here formatting.
 pub const FORMATTED: u64 = 11;
@@ -60,12 +65,11 @@ pub const BUFFER_VALVES: u64 = 48;
 // An append of them, with its steps.
 pub const SET: u64 = 52;
 
-// How the last call of a list went: the number that refused it, or 0; the steps it tried; the page or block that the last of them touched; and
-// the state.
+// How the last call of a list went: the number that refused it, or 0; the steps it tried; whether a cut lost the state; and the state.
 pub struct Trial {
     pub number: u8,
     pub steps: usize,
-    pub touched: usize,
+    pub lost: bool,
     pub state: State,
 }
 
@@ -88,7 +92,7 @@ fn numbers(code: u64, n: u64) -> usize
     if call == APPEND || call == BUFFER {
         return 1 + 2 * ((n % 98) as usize);
     }
-    if call == COLLECT {
+    if call == COLLECT || call == CUT {
         return 1;
     }
     if code == PUT {
@@ -146,102 +150,72 @@ fn words(call: &[u64], n: usize) -> [u64; 97]
     all
 }
 
-// An append.
-fn append(m: &[u8], s: State, b: &[u8], call: &[u64], n: usize) -> Begun
-    requires { ⌜ n ≤ 97 ⌝ }
-{
-    let keys = keys(call);
-    let words = words(call, n);
-    begin::append(m, s, b, &keys[..n], &words[..n])
-}
-
-// A group put into the write buffer.
-fn buffer(m: &[u8], s: State, b: &mut [u8], call: &[u64], n: usize) -> Begun
-    requires { ⌜ n ≤ 97 ⌝ }
-{
-    let keys = keys(call);
-    let words = words(call, n);
-    let number = begin::buffer(m, s, b, &keys[..n], &words[..n]);
-    Begun {
-        number: number,
-        state: s,
-    }
-}
-
-// Recovery.
-fn recovered(m: &[u8]) -> Begun {
-    let r = recover::recover(m);
-    let state = r.state;
-    Begun {
-        number: r.number,
-        state: state,
-    }
-}
-
-// The write buffer as it is lent after formatting and after recovery.
-fn empty(b: &mut [u8]) {
-    let mut i: usize = 0;
-    while i < b.len() {
-        b[i] = 255;
-        i += 1;
-    }
-}
-
-// Formatting begins or recovery is made; the write buffer is empty then.
-fn started(m: &[u8], b: &mut [u8], code: u64) -> Begun {
-    empty(b);
-    if code == FORMAT {
-        return begin::format(m);
-    }
-    recovered(m)
-}
-
-// A call with a group: an append, or the group put into the write buffer.
-fn grouped(m: &[u8], s: State, b: &mut [u8], call: &[u64], n: usize) -> Begun
-    requires { ⌜ n ≤ 97 ⌝ }
-{
-    if at(call, 0) % 10 == APPEND {
-        return append(m, s, b, call, n);
-    }
-    buffer(m, s, b, call, n)
-}
-
-// A call that begins an operation, recovery, or a group for the write buffer; any other code leaves all as it was.
-fn begun(m: &[u8], number: u8, s: State, b: &mut [u8], call: &[u64]) -> Begun {
-    let code = at(call, 0) % 10;
-    let n = (at(call, 1) % 98) as usize;
-    if code == FORMAT || code == RECOVER {
-        return started(m, b, code);
-    }
-    if code == COMMIT {
-        return begin::commit(m, s, b);
-    }
-    if code == COLLECT {
-        return begin::collect(m, s, b, n);
-    }
-    if code == FLUSH {
-        return begin::flush(m, s, b);
-    }
-    if code == APPEND || code == BUFFER {
-        return grouped(m, s, b, call, n);
-    }
-    Begun {
-        number: number,
-        state: s,
-    }
-}
-
-// An answer, before any step.
-fn told(b: Begun) -> Trial
-    ensures { λ r. ⌜ r .number ≡ b .number ⌝ }
-{
-    let state = b.state;
+// How a call went, and after how many steps.
+fn told(r: Reply, steps: usize) -> Trial {
+    let last = r.last;
+    let state = last.state;
     Trial {
-        number: b.number,
-        steps: 0,
-        touched: 0,
+        number: r.number,
+        steps: steps,
+        lost: last.lost,
         state: state,
     }
+}
+
+// The state that the calls so far left.
+fn last(t: Trial) -> LastState {
+    let state = t.state;
+    LastState {
+        lost: t.lost,
+        state: state,
+    }
+}
+
+// A call with a number, and with a group of n entries.
+fn called(m: &mut [u8], b: &mut [u8], t: Trial, call: &[u64], n: usize) -> Trial
+    requires { ⌜ (length (now m) ≤ 65536) × (length (now b) ≡ bufferBytes) × (n ≤ 97) ⌝ }
+{
+    let code = at(call, 0) % 10;
+    let number = at(call, 1);
+    let keys = keys(call);
+    let words = words(call, n);
+    let r = player::call(m, b, last(t), code, number, &keys[..n], &words[..n], &[]);
+    told(r, 0)
+}
+
+// A cut of what is named.
+fn cut(m: &mut [u8], b: &mut [u8], t: Trial, name: u64) -> Trial
+    requires { ⌜ (length (now m) ≤ 65536) × (length (now b) ≡ bufferBytes) ⌝ }
+{
+    let size = trace::pattern_size(name);
+    let pattern = [0u8; 4096];
+    let r = player::call(m, b, last(t), CUT, name, &[], &[], &pattern[..size]);
+    told(r, 0)
+}
+
+// Nothing but the state that the calls so far left.
+fn rest(t: Trial) -> Trial {
+    let state = t.state;
+    Trial {
+        number: t.number,
+        steps: 0,
+        lost: t.lost,
+        state: state,
+    }
+}
+
+// A call before any step; one without the journal leaves all as it was.
+fn begun(m: &mut [u8], b: &mut [u8], t: Trial, call: &[u64]) -> Trial
+    requires { ⌜ (length (now m) ≤ 65536) × (length (now b) ≡ bufferBytes) ⌝ }
+{
+    let code = at(call, 0) % 10;
+    if code == 0 || code == STEP {
+        return rest(t);
+    }
+    if code == CUT {
+        return cut(m, b, t, at(call, 1));
+    }
+    called(m, b, t, call, (at(call, 1) % 98) as usize)
 }
 
 // How many steps a call stands for.
@@ -260,8 +234,9 @@ fn steps(call: &[u64]) -> usize
 
 // A step after n others; none where one was refused, or where they ended the operation.
 fn go_on(m: &mut [u8], b: &mut [u8], t: Trial, n: usize) -> Trial
-    requires { ⌜ n < 20 ⌝ }
+    requires { ⌜ (length (now m) ≤ 65536) × (length (now b) ≡ bufferBytes) × (n < 20) ⌝ }
 {
+    let steps = n + 1;
     if t.number != 0 {
         return t;
     }
@@ -271,19 +246,13 @@ fn go_on(m: &mut [u8], b: &mut [u8], t: Trial, n: usize) -> Trial
             return t;
         }
     }
-    let r = advance::step(m, s, b);
-    let state = r.state;
-    Trial {
-        number: r.number,
-        steps: n + 1,
-        touched: r.at,
-        state: state,
-    }
+    let r = player::call(m, b, last(t), STEP, 0, &[], &[], &[]);
+    told(r, steps)
 }
 
 // At most so many steps.
 fn finish(m: &mut [u8], b: &mut [u8], t: Trial, most: usize) -> Trial
-    requires { ⌜ most ≤ 20 ⌝ }
+    requires { ⌜ (length (now m) ≤ 65536) × (length (now b) ≡ bufferBytes) × (most ≤ 20) ⌝ }
 {
     let mut u = t;
     let mut n: usize = 0;
@@ -326,31 +295,42 @@ fn damage(m: &mut [u8], call: &[u64]) {
     }
 }
 
-// What a call answers before any step, after those that went as t.
-fn answered(m: &[u8], b: &mut [u8], t: Trial, call: &[u64]) -> Trial {
-    let s = t.state;
-    told(begun(m, t.number, s, b, call))
-}
-
 // A call with its steps.
-fn made(m: &mut [u8], b: &mut [u8], t: Trial, call: &[u64]) -> Trial {
+fn made(m: &mut [u8], b: &mut [u8], t: Trial, call: &[u64]) -> Trial
+    requires { ⌜ (length (now m) ≤ 65536) × (length (now b) ≡ bufferBytes) ⌝ }
+{
     damage(m, call);
-    let u = answered(m, b, t, call);
+    let u = begun(m, b, t, call);
     finish(m, b, u, steps(call))
 }
 
-// The answer before any call: that of a format of no bytes, which is refused.
+// What there is before any call: no state, and the answer that a format of no bytes has.
 fn nothing() -> Trial
     ensures { λ r. ⌜ r .number ≡ 1 ⌝ }
 {
-    told(begin::format(&[]))
+    let mut b = [255u8; 256];
+    let last = player::start(&mut [], &mut b);
+    let state = last.state;
+    Trial {
+        number: 1,
+        steps: 0,
+        lost: last.lost,
+        state: state,
+    }
 }
 
-// Each call of a list in turn, also after a refusal, with a write buffer. What the state is before the first FORMAT or RECOVER means nothing.
+// Each call of a list in turn, also after a refusal, with a write buffer. Before the first FORMAT or RECOVER there is no state. On a medium of more
+// than 65536 bytes no call is played, nor with a buffer that is no page.
 pub fn play_with(m: &mut [u8], b: &mut [u8], calls: &[u64]) -> Trial
     ensures { λ r. ⌜ Played (now (m .entry)) (now (calls .entry)) r (now (m .exit)) ⌝ }
 {
     let mut t = nothing();
+    if 65536 < m.len() {
+        return t;
+    }
+    if b.len() != 256 {
+        return t;
+    }
     let mut i: usize = 0;
     while i < calls.len() {
         let e = end(calls, i);

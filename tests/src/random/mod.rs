@@ -8,6 +8,7 @@
 //! * [`Sketch`]: media laid down page by page; [`refused_medium`]: one for each
 //!   refusal of recovery.
 //! * [`some_records`], [`damage_state`], [`some_buffer`]: what is lent to calls.
+//! * [`some_calls`], [`damaged_trace`]: recorded runs.
 
 mod buffers;
 mod choices;
@@ -19,6 +20,7 @@ mod records;
 mod refused;
 mod sketches;
 mod states;
+mod traces;
 
 pub use buffers::some_buffer;
 pub use choices::some_entry;
@@ -33,3 +35,4 @@ pub use records::some_records;
 pub use refused::{refused_medium, ways};
 pub use sketches::{sketched, Sketch};
 pub use states::damage_state;
+pub use traces::{damaged_trace, some_calls, some_calls_within};

@@ -1,12 +1,12 @@
 use mathlib.Core.Path.{_≡_}
-use Prim.Native.Nat.{_-_}
+use Prim.Native.Nat.{_-_, _≤_}
 use lib.ListN.{length}
 use borrow.Author.Needs.{needs}
 use Rattle.trials.proofs.finish.Statement.{statement}
 use Rattle.trials.proofs.finish.Tie as tie
 
 abbrev Inv-loop : tie.InvT-loop
-Inv-loop m₀ b₀ most u₀ n₀ m b u n = (length m ≡ length m₀) × (length b ≡ length b₀)
+Inv-loop m₀ b₀ most u₀ n₀ m b u n = (length m ≡ length m₀) × (length b ≡ length b₀) × (length m ≤ 65536) × (length b ≡ 256)
 
 abbrev μ-loop : tie.MeasureT-loop
 μ-loop m₀ b₀ most u₀ n₀ m b u n = most - n

@@ -1,0 +1,5 @@
+pub mod CutsAllowed
+pub mod Long
+pub mod Laws
+pub mod Cuts
+pub mod Calls

@@ -1,0 +1,5 @@
+pub mod Cuts
+pub mod Lines
+pub mod Run
+pub mod Played
+pub mod CutBits

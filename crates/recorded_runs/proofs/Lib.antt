@@ -1,0 +1,13 @@
+pub mod Along
+pub mod Formats
+pub mod Prints
+pub mod Form
+pub mod Whole
+pub mod OfCode
+pub mod Runs
+pub mod Reaches
+pub mod Events
+pub mod Formatted
+pub mod Example
+pub mod Refused
+pub mod Complete

@@ -1,0 +1,5 @@
+pub mod Recorded
+pub mod OfCode
+pub mod Reaches
+pub mod Events
+pub mod Example
