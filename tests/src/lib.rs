@@ -6,7 +6,8 @@
 //! * [`effects`]: what a span of the log did; [`mattered`]: which one group
 //!   mattered.
 //! * [`dispatcher`]: which operation comes next.
-//! * [`history`]: the plain history that recovery is held to.
+//! * [`history`]: the plain history that recovery is held to; [`fading`]: each
+//!   moment of it, and media whose bits fade.
 //! * [`before`]: pages that set valve 0, written by hand.
 //! * [`grown`]: journals of many blocks, written for long.
 //! * [`logs`]: logs and media made for the readings of the log.
@@ -29,6 +30,7 @@ pub mod calls;
 pub mod corners;
 pub mod dispatcher;
 pub mod effects;
+pub mod fading;
 pub mod grown;
 pub mod history;
 pub mod logs;

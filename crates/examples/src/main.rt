@@ -332,6 +332,25 @@ fn collected() {
     first_block(&m, t.state);
 }
 
+// Bits that fade: the first n numbers of these calls, then one byte of the medium faded to FFh.
+fn faded(name: &[u8], n: usize, at: u64)
+    requires { ⌜ n ≤ 15 ⌝ }
+{
+    let mut m = [255u8; 16384];
+    sample(&mut m, n);
+    trials::play(&mut m, &[BYTE, at, 255]);
+    text(name);
+    show::medium(&m);
+}
+
+// Page 2, the newest; page 1, which leaves a gap; the commit's base, behind which an older one stands; the same after the collection, when none does.
+fn fading() {
+    faded(b"the sample, its newest page faded:\n", 11, 529);
+    faded(b"the page before it faded:\n", 11, 272);
+    faded(b"after the commit, its base faded:\n", 13, 4104);
+    faded(b"after the collection, that base faded:\n", 15, 4104);
+}
+
 // Two groups on one page; and 16 entries in two groups.
 fn small_groups() {
     page_of(
@@ -473,6 +492,7 @@ fn main() {
     recovered();
     committed();
     collected();
+    fading();
     small_groups();
     flushes();
     words();

@@ -1,6 +1,6 @@
 -- The chain from the promises of the code to point 3: the machine moves exactly as the world of the theorem does, so each run of the code is
 -- one of the theorem's lists, and what the theorem says of recovery is what the program is handed.
-use mathlib.Core.Path.{_≡_, refl, sym, ap, _∙_, subst}
+use mathlib.Core.Path.{_≡_, refl, sym, ap, ap₂, _∙_, subst}
 use mathlib.Core.Bool.{Bool, true, false, not}
 use mathlib.Core.Option.{Option, none, some}
 use mathlib.Core.List.{List, [], _∷_}
@@ -13,12 +13,12 @@ use Rattle.lists.specs.declared.Cell.{Cell}
 use Rattle.lists.specs.Lists.{all, isSome, valueOr}
 use Rattle.lists.specs.Needs.{Answer, refused, gives, answered, andThen, Need, under}
 use Rattle.lists.specs.Cells.{cell, Entry}
-use Rattle.lists.proofs.Laws.{by-cases, true-false, all-head, all-tail, answered-gives, gave-number, gave-value, refused-with}
+use Rattle.lists.proofs.Laws.{by-cases, true-false, and-both, all-head, all-tail, answered-gives, gave-number, gave-value, refused-with}
 use Rattle.page.specs.Pages.{View}
 use Rattle.flash.specs.Medium.{views}
 use Rattle.index.specs.Index.{lookup}
 use Rattle.blocks.specs.Blocks.{sizeOk}
-use Rattle.nodes.specs.Nodes.{wordAt}
+use Rattle.nodes.specs.Nodes.{wordAt, sound, words}
 use Rattle.state.specs.declared.State.{State}
 use Rattle.state.specs.State.{Held, meaning, fit}
 use Rattle.recovery.specs.Recovery.{Recovery, recoveryWith, recover as recoverOf}
@@ -41,8 +41,6 @@ use Rattle.valve_log.specs.Reached.{happen, accepted, finishes, meanwhile, Word
 use Rattle.valve_log.specs.Steady.{Steady, Answers}
 use Rattle.valve_log.proofs.Point3.{point3}
 use Rattle.valve_log.proofs.Steady.{steady}
-use Rattle.valve_log.specs.Settings.{SettingsTold}
-use Rattle.valve_log.proofs.Settings.{settings-told}
 use Rattle.journal.specs.Run.{Machine, meant, worldOf, goingOn, lentOn, Moves, begunBy, steppedBy, recoveredBy, toldBy, saysFinished}
 use Rattle.journal.specs.Run.{finishedBy, meanwhileBy, Formatting, Run, openingIn, Handed, Point3OfCode}
 
@@ -264,7 +262,7 @@ formats m r e q = sym e ∙ answered-gives (r .number) (meaning (r .state)) q
 there : (P : World → Type 0) (x y : Machine) (e : Event (worldOf x)) → Moves x e y → P (happen (worldOf x) e .after) → P (worldOf y)
 there P x y e v p = subst P (sym (moves x y e v)) p
 
-formatting : (x : Machine) → Formatting x → reached.Formatting (worldOf x)
+pub formatting : (x : Machine) → Formatting x → reached.Formatting (worldOf x)
 unfolding meant
 formatting x (Formatting.begun m r bs b f q) = reached.begun m (meaning (r .state)) bs b (formats m r f q)
 formatting x (Formatting.next z y e f v ok) =
@@ -320,59 +318,72 @@ module _ (m : List ℕ) (log : List (List Entry)) (s : Held) (a : recoverOf (len
   found-number : r .number ≡ 0
   found-number = gave-number (r .number) (meaning (r .state)) s says
 
-  found-state : meaning (r .state) ≡ s
+  pub found-state : meaning (r .state) ≡ s
   found-state = gave-value (r .number) (meaning (r .state)) s says
 
-module _ (w : World) (h : History) (R : reached.Reached w h) (S : Shows (w .medium) h) where
-  log-shown : (lists : List (List ℕ)) → readLog (length (w .medium)) (views (w .medium)) lists ≡ filedLog lists (h .log)
+-- place by place an index that has these words is sound, and they are the words at its addresses
+words-sound : (v : List View) {index settings : List Cell} → Words v index settings → sound v index ≡ true
+unfolding sound all
+words-sound v end = refl
+words-sound v (more {k} {a} q t) = and-both (ap isSome q ∙ (unfold isSome in refl)) (words-sound v t)
+
+words-are : (v : List View) {index settings : List Cell} → Words v index settings → words v index ≡ settings
+unfolding words
+words-are v end = refl
+words-are v (more {k} {a} {w} q t) = ap₂ _∷_ (ap (λ o. cell k (valueOr 0 o)) q ∙ (unfold valueOr in refl)) (words-are v t)
+
+-- a medium that shows a history, and the state recovered from it passes 1 and 7
+module _ (m : List ℕ) (h : History) (S : Shows m h) (size : sizeOk (length m) ≡ true) (fits : fit (views m) (S .state) ≡ true) where
+  log-shown : (lists : List (List ℕ)) → readLog (length m) (views m) lists ≡ filedLog lists (h .log)
   unfolding readLog andThen
   log-shown lists = ap (λ R. andThen R (λ r. filedLog lists (r .log))) (S .accepts) ∙ ap (filedLog lists) (S .same-log)
 
+  valve-shown : (valve : ℕ) → openingOf (length m) (views m) (S .state) valve ≡ openingIn (lookup valve (h .settings))
+  valve-shown valve = opens (length m) (views m) (S .state) valve (lookup valve (S .state .index)) _ size fits refl refl ∙ words-open (views m) valve (S .same-settings)
+
+  list-shown : (lists : List (List ℕ)) → readSettings (length m) (views m) (S .state) lists ≡ filedSettings lists (h .settings)
+  unfolding readSettings under
+  list-shown lists = rw (size, fits, words-sound (views m) (S .same-settings), words-are (views m) (S .same-settings))
+
+  pub handed : Handed m h
+  handed =
+      record {
+        accepted = found-number m (S .log) (S .state) (S .accepts);
+        log = λ ks ws ns ks′ ws′ ns′ a p. p ∙ ap (leaving (ks ∷ ws ∷ ns ∷ [])) (log-shown (ks ∷ ws ∷ ns ∷ []));
+        settings = λ r p. subst (λ l. Words (views m) l (h .settings)) (sym (ap (λ (x : Held). x .index) (state-is r p))) (S .same-settings);
+        opening = λ r valve a p q. q ∙ ap (λ (x : Held). openingOf (length m) (views m) x valve) (state-is r p) ∙ valve-shown valve;
+        list = λ r valves ws valves′ ws′ a p q. q ∙ ap (leaving (valves ∷ ws ∷ [])) (list-is r p (valves ∷ ws ∷ []));
+      }
+    where
+      state-is : (r : Recovered) → Recovers m r → meaning (r .state) ≡ S .state
+      state-is r p = found-state m (S .log) (S .state) (S .accepts) r p
+
+      list-is : (r : Recovered) → Recovers m r → (lists : List (List ℕ)) → readSettings (length m) (views m) (meaning (r .state)) lists ≡ filedSettings lists (h .settings)
+      list-is r p lists = ap (λ (x : Held). readSettings (length m) (views m) x lists) (state-is r p) ∙ list-shown lists
+
+-- so is one that a list reaches
+module _ (w : World) (h : History) (R : reached.Reached w h) (S : Shows (w .medium) h) where
   -- the list with this recovery is one more
   after : happen w Event.recover .after ≡ world (w .medium) (some (S .state)) fresh
   unfolding happen recovered
   after = ap (λ (t : Answer Recovery). recovered w t .after) (S .accepts)
 
-  found : reached.Reached (world (w .medium) (some (S .state)) fresh) (tell h (happen w Event.recover .told))
-  found = subst (λ x. reached.Reached x (tell h (happen w Event.recover .told))) after (reached.next w h Event.recover R)
-
   answers : Answers (w .medium) (S .state) fresh
   unfolding Steady
-  answers = steady (world (w .medium) (some (S .state)) fresh) (tell h (happen w Event.recover .told)) (S .state) found refl
+  answers =
+      steady (world (w .medium) (some (S .state)) fresh) (tell h (happen w Event.recover .told)) (S .state)
+      (subst (λ x. reached.Reached x (tell h (happen w Event.recover .told))) after (reached.next w h Event.recover R)) refl
 
-  valve-shown : (valve : ℕ) → openingOf (length (w .medium)) (views (w .medium)) (S .state) valve ≡ openingIn (lookup valve (h .settings))
-  valve-shown valve =
-      opens (length (w .medium)) (views (w .medium)) (S .state) valve (lookup valve (S .state .index)) _ (size-met (w .medium) (S .state) fresh answers)
-      (fit-met (w .medium) (S .state) fresh answers) refl refl ∙ words-open (views (w .medium)) valve (S .same-settings)
+  pub size-reached : sizeOk (length (w .medium)) ≡ true
+  size-reached = size-met (w .medium) (S .state) fresh answers
 
-  -- a recovery leaves the settings as they are
-  kept : tell h (happen w Event.recover .told) .settings ≡ h .settings
-  unfolding happen recovered tell
-  kept = ap (λ (t : Answer Recovery). tell h (recovered w t .told) .settings) (S .accepts)
-
-  list-shown : (lists : List (List ℕ)) → readSettings (length (w .medium)) (views (w .medium)) (S .state) lists ≡ filedSettings lists (h .settings)
-  unfolding SettingsTold
-  list-shown lists =
-      settings-told (world (w .medium) (some (S .state)) fresh) (tell h (happen w Event.recover .told)) (S .state) lists found refl ∙ ap (filedSettings lists) kept
-
-  handed : Handed (w .medium) h
-  handed =
-      record {
-        accepted = found-number (w .medium) (S .log) (S .state) (S .accepts);
-        log = λ ks ws ns ks′ ws′ ns′ a p. p ∙ ap (leaving (ks ∷ ws ∷ ns ∷ [])) (log-shown (ks ∷ ws ∷ ns ∷ []));
-        settings = λ r p. subst (λ l. Words (views (w .medium)) l (h .settings)) (sym (ap (λ (x : Held). x .index) (state-is r p))) (S .same-settings);
-        opening = λ r valve a p q. q ∙ ap (λ (x : Held). openingOf (length (w .medium)) (views (w .medium)) x valve) (state-is r p) ∙ valve-shown valve;
-        list = λ r valves ws valves′ ws′ a p q. q ∙ ap (leaving (valves ∷ ws ∷ [])) (list-is r p (valves ∷ ws ∷ []));
-      }
-    where
-      state-is : (r : Recovered) → Recovers (w .medium) r → meaning (r .state) ≡ S .state
-      state-is r p = found-state (w .medium) (S .log) (S .state) (S .accepts) r p
-
-      list-is : (r : Recovered) → Recovers (w .medium) r → (lists : List (List ℕ))
-          → readSettings (length (w .medium)) (views (w .medium)) (meaning (r .state)) lists ≡ filedSettings lists (h .settings)
-      list-is r p lists = ap (λ (x : Held). readSettings (length (w .medium)) (views (w .medium)) x lists) (state-is r p) ∙ list-shown lists
+  pub fit-reached : fit (views (w .medium)) (S .state) ≡ true
+  fit-reached = fit-met (w .medium) (S .state) fresh answers
 
 -- Point 3, of the code.
 pub point3-of-code : Point3OfCode
 unfolding Point3OfCode Point3
-point3-of-code x h r = let R = runs x h r in handed (worldOf x) h R (point3 (worldOf x) h R)
+point3-of-code x h r =
+    let R = runs x h r in
+    let S = point3 (worldOf x) h R in
+    handed (x .medium) h S (size-reached (worldOf x) h R S) (fit-reached (worldOf x) h R S)

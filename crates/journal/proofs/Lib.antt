@@ -7,4 +7,5 @@ pub mod Reader
 pub mod SinceCommit
 pub mod Mattered
 pub mod Housekeeping
+pub mod Fading
 pub mod Reaching

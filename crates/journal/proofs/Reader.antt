@@ -21,7 +21,7 @@ use Rattle.journal.specs.Reader.{AskedInTurn, stop, ask, GivesLog, stopp
 use Rattle.journal.proofs.Chain.{runs}
 
 -- the answers, one after the other, are what the definition gives
-answers : {m : List ℕ} {at : LogPlace} {es : List Entry} {ns : List ℕ} {cs : List ReadChange} → Reads m at es ns → AskedInTurn m at cs → GivesLog es ns cs
+pub answers : {m : List ℕ} {at : LogPlace} {es : List Entry} {ns : List ℕ} {cs : List ReadChange} → Reads m at es ns → AskedInTurn m at cs → GivesLog es ns cs
 unfolding noMore
 answers r stop = stopped
 answers {m} (over e) (ask c p q) =
@@ -33,7 +33,7 @@ answers {m} (more {es = es} {ns = ns} next e r) (ask c p q) =
     (answers (subst (λ (t : LogPlace). Reads m t es ns) (sym (ap (λ (d : ReadChange). d .next) z)) r) q)
 
 module _ (m : List ℕ) (h : History) (S : Shows m h) where
-  out : ReadOut m h
+  pub out : ReadOut m h
   unfolding startOf startPlace
   out =
       record {

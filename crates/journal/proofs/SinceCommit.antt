@@ -47,8 +47,13 @@ whole-is log n l e d =
     (λ b. let z = rw b at y in by-cases (eqb n 0) (λ c. let w : gives l ≡ refused 22 = rw c at z in let k : _≡_ {A = ℕ} 0 1 = cc in absurd (omega arith))
     (λ c. let w : refused n ≡ refused 22 = rw c at z in let k : n ≡ 22 = cc in absurd (d k)))
 
+-- what the call answers of every medium that shows a history
+pub effect-shown : (m : List ℕ) (h : History) → Shows m h → (first second : ℕ) (a : SpanEffect) → Effects m first second a → answerOf a ≡ spanEffect first second (h .log)
+unfolding effectOf andThen
+effect-shown m h S first second a p = p ∙ ap (λ R. andThen R (λ r. spanEffect first second (r .log))) (S .accepts) ∙ ap (spanEffect first second) (S .same-log)
+
 pub effect-explains-of-code : EffectExplainsOfCode
-unfolding EffectExplainsOfCode Point3 Point3OfCode effectOf andThen
+unfolding EffectExplainsOfCode Point3 Point3OfCode
 effect-explains-of-code x h R =
     record {
       of-log = told;
@@ -56,7 +61,7 @@ effect-explains-of-code x h R =
     }
   where
     told : (first second : ℕ) (a : SpanEffect) → Effects (x .medium) first second a → answerOf a ≡ spanEffect first second (h .log)
-    told first second a p = let P = point3 (worldOf x) h (runs x h R) in p ∙ ap (λ R. andThen R (λ r. spanEffect first second (r .log))) (P .accepts) ∙ ap (spanEffect first second) (P .same-log)
+    told = effect-shown (x .medium) h (point3 (worldOf x) h (runs x h R))
 
     settings : (a : SpanEffect) → Effects (x .medium) 0 (length (h .log)) a → (a .number ≡ 22 → ⊥) → h .settings ≡ assignAll (lastCommittedIn x h R) (listed (a .cells))
     settings a p d =

@@ -7,3 +7,4 @@ pub mod Reader
 pub mod SinceCommit
 pub mod Mattered
 pub mod Housekeeping
+pub mod Fading

@@ -41,6 +41,11 @@ impl Life {
         if blocks > FEW_BLOCKS && !random.one_in(4) {
             return some_grown(random, blocks);
         }
+        Life::unformatted(random, blocks)
+    }
+
+    /// A life on any medium of so many blocks, not yet formatted.
+    pub fn unformatted(random: &mut Random, blocks: usize) -> Life {
         let mut life = Life::blank(random, blocks);
         match random.below(3) {
             0 => {}

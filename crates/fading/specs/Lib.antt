@@ -1,0 +1,4 @@
+pub mod Fading
+pub mod Made
+pub mod Today
+pub mod Examples
