@@ -48,8 +48,8 @@
 extern "C" {
 #endif
 
-/* The version of this interface: raised by one by each change of the library that adds, alters or takes away a call, a type, a constant or the
- * meaning of a number. The archive is built from the same commit as this file. */
+/* The version of this interface: raised by one where a library that is given out has a call, a type, a constant or a meaning of a number other
+ * than the one given out before it. The archive is built from the same commit as this file. */
 #define VJ_INTERFACE_VERSION 2
 
 /* The version of the layout, that is of what stands on a page: raised by one by each change after which a library before it refuses or
@@ -76,7 +76,9 @@ enum {
     VJ_REMOVAL = 32768       /* the key that removes a valve is the valve + this; a lower key is the valve it sets */
 };
 
-/* The refusals: number, name and text. Each call says its numbers in the order in which they are asked, and gives the first that applies. */
+/* The refusals: number, name and text. Each call says its numbers in the order in which they are asked, and gives the first that applies.
+ * 26 and 27 are no call's. The program rerun prints 26 where a recorded run breaks its form, 27 where a recorded cut meets no step, or one of
+ * another page or block. */
 #define VJ_REFUSALS(X) \
     X(1, VJ_REFUSED_LENGTH, "the medium's length is not 4 to 256 times 4096 bytes") \
     X(2, VJ_REFUSED_PAGE_RULES, "a whole page breaks the page rules") \
@@ -130,12 +132,12 @@ static inline const char *vj_refusal_text(uint8_t number)
  * bytes more, and rounded up to a multiple of 1024. tests/tests/stack.rs measures it anew, and fails where a call takes more than is said here,
  * or over 2048 bytes less. VJ_STACK_MOST is enough for every call. */
 enum {
-    VJ_STACK_RECOVER = 87040,
-    VJ_STACK_LOG = 78848,
-    VJ_STACK_READER = 78848,
+    VJ_STACK_RECOVER = 84992,
+    VJ_STACK_LOG = 76800,
+    VJ_STACK_READER = 76800,
     VJ_STACK_CHANGE = 1024,
-    VJ_STACK_EFFECT = 119808,
-    VJ_STACK_MATTERED = 185344,
+    VJ_STACK_EFFECT = 116736,
+    VJ_STACK_MATTERED = 183296,
     VJ_STACK_PAGE = 1024,
     VJ_STACK_OPENING = 11264,
     VJ_STACK_SETTINGS = 17408,
@@ -152,7 +154,7 @@ enum {
     VJ_STACK_FLUSH = 33792,
     VJ_STACK_BUFFER = 30720,
     VJ_STACK_STEP = 51200,
-    VJ_STACK_MOST = 185344
+    VJ_STACK_MOST = 183296
 };
 
 /* A list of at most VJ_MOST_VALVES numbers under keys, the number under keys[i] in vals[i]. In the index: a valve and the address of its entry,

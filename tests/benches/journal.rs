@@ -1,10 +1,12 @@
-//! The time of the proved library over that of the second implementation, on
-//! media of 16 and of 256 blocks. Both make the same calls in turn in one
-//! process, each call with all its checks; the least of many times counts.
+//! The time of the proved library over that of the second implementation, and for
+//! the calls of every day over that of the tight one, on media of 16 and of 256
+//! blocks. All make the same calls in turn in one process, each call with all its
+//! checks; the least of many times counts.
 //!
 //!     cargo bench --offline --manifest-path tests/Cargo.toml
+//!     cargo bench --offline --manifest-path tests/Cargo.toml --bench journal -- everyday
 
-use journal_tests::calls::{Calls, Proved, Second, EMPTY};
+use journal_tests::calls::{Calls, Proved, Second, Tight, EMPTY};
 use journal_tests::dispatcher::{next_operation, Operation};
 use journal_tests::effects::{self, Effect};
 use journal_tests::grown::shuffle_blocks;
@@ -105,7 +107,8 @@ fn appends<C: Calls, const ENTRIES: usize>(lent: &mut Lent<C>) {
     for group in 0.. {
         let (keys, words) = some_group::<ENTRIES>(group);
         if let Err(refused) = C::append(medium, state, &EMPTY, &keys, &words) {
-            assert_eq!((refused, group), (Refused(13), medium.len() / 256 - 17));
+            let pages = (medium.len() / 256 - 17) / ENTRIES.div_ceil(24);
+            assert_eq!((refused, group), (Refused(13), pages));
             return;
         }
         C::finish_unbuffered(medium, state);
@@ -142,6 +145,15 @@ fn collection<C: Calls>(lent: &mut Lent<C>) {
 fn openings<C: Calls>(lent: &mut Lent<C>) {
     for key in some_group::<24>(0).0 {
         black_box(C::open(&lent.medium, &lent.state, key)).expect("an opening");
+    }
+}
+
+/// A hundred commits that are refused at once, by the length of the medium: what is
+/// left of their time is the state handed over and back.
+fn refusals<C: Calls>(lent: &mut Lent<C>) {
+    for _ in 0..100 {
+        let refused = C::commit(black_box(&[]), &mut lent.state, &EMPTY);
+        assert_eq!(black_box(refused), Err(Refused(1)));
     }
 }
 
@@ -274,23 +286,24 @@ fn time<C: Calls>(journal: &Journal, run: impl Fn(&mut Lent<C>)) -> Duration {
 }
 
 /// Runs both in turn for some seconds, at least 5 times, and prints the least
-/// time of each and their ratio.
-fn compare(
+/// time of each and their ratio. The other is the second implementation or the
+/// tight one.
+fn compare<C: Calls>(
     name: &str,
     journal: &Journal,
     proved: impl Fn(&mut Lent<Proved>),
-    second: impl Fn(&mut Lent<Second>),
+    (of, other): (&str, impl Fn(&mut Lent<C>)),
 ) {
-    let (mut least_proved, mut least_second) = (Duration::MAX, Duration::MAX);
+    let (mut least_proved, mut least_other) = (Duration::MAX, Duration::MAX);
     let (start, mut runs) = (Instant::now(), 0);
     while runs < 5 || start.elapsed() < Duration::from_secs(2) {
         least_proved = least_proved.min(time(journal, &proved));
-        least_second = least_second.min(time(journal, &second));
+        least_other = least_other.min(time(journal, &other));
         runs += 1;
     }
-    let ratio = least_proved.as_secs_f64() / least_second.as_secs_f64();
-    let (proved, second) = (micros(least_proved), micros(least_second));
-    println!("{name}: proved {proved:.1} µs, second {second:.1} µs, ratio {ratio:.2}");
+    let ratio = least_proved.as_secs_f64() / least_other.as_secs_f64();
+    let (proved, other) = (micros(least_proved), micros(least_other));
+    println!("{name}: proved {proved:.1} µs, {of} {other:.1} µs, ratio {ratio:.2}");
 }
 
 fn micros(time: Duration) -> f64 {
@@ -300,17 +313,30 @@ fn micros(time: Duration) -> f64 {
 /// The same calls of both.
 macro_rules! compare {
     ($name:expr, $journal:expr, $run:ident $(, $entries:expr)?) => {
-        compare($name, $journal, $run::<Proved $(, $entries)?>, $run::<Second $(, $entries)?>)
+        let second = ("second", $run::<Second $(, $entries)?>);
+        compare($name, $journal, $run::<Proved $(, $entries)?>, second)
+    };
+}
+
+/// The same calls of the proved library and of the tight one.
+macro_rules! compare_tight {
+    ($name:expr, $journal:expr, $run:ident $(, $entries:expr)?) => {
+        let tight = ("tight", $run::<Tight $(, $entries)?>);
+        compare($name, $journal, $run::<Proved $(, $entries)?>, tight)
     };
 }
 
 /// The log change by change beside the second implementation's lists.
 fn compare_log(name: &str, journal: &Journal) {
     let name = format!("{name}, the log, change by change");
-    compare(&name, journal, change_by_change, log::<Second>);
+    compare(&name, journal, change_by_change, ("second", log::<Second>));
 }
 
 fn main() {
+    everyday();
+    if std::env::args().any(|argument| argument == "everyday") {
+        return;
+    }
     sixteen_blocks();
     for (name, journal) in [
         ("full", full(256)),
@@ -339,8 +365,9 @@ fn main() {
     }
     compare!("256 blocks, groups of 24 until 13", &formatted(256), appends, 24);
     for (name, journal) in [("almost full", almost_full(256)), ("full", full(256))] {
-        let (proved, second) = (next(proved::next_operation), next(next_operation));
-        compare(&format!("256 blocks, what comes next, {name}"), &journal, proved, second);
+        let (proved, second) = (next(proved::next_operation), next::<Second>(next_operation));
+        let name = format!("256 blocks, what comes next, {name}");
+        compare(&name, &journal, proved, ("second", second));
     }
     largest_logs();
 }
@@ -353,11 +380,36 @@ fn largest_logs() {
         compare!(&format!("{name}, recovery"), &journal, recovery);
         compare_log(&name, &journal);
         for (what, span) in [("all groups", (0, n)), ("the second half", (n / 2, n))] {
-            let (proved, second) = (effect(proved::effect, span), effect(effects::effect, span));
+            let proved = effect(proved::effect, span);
+            let second = ("second", effect::<Second>(effects::effect, span));
             compare(&format!("{name}, the effect of {what}"), &journal, proved, second);
         }
-        let (proved, second) = (mattered(proved::mattered_into), mattered(mattered_into));
+        let proved = mattered(proved::mattered_into);
+        let second = ("second", mattered::<Second>(mattered_into));
         compare(&format!("{name}, which groups mattered"), &journal, proved, second);
+    }
+}
+
+/// The calls of every day against the tight writer.
+fn everyday() {
+    let blank = formatted(16);
+    compare_tight!("everyday, groups of 2 until 13", &blank, appends, 2);
+    compare_tight!("everyday, groups of 24 until 13", &blank, appends, 24);
+    compare_tight!("everyday, groups of 96 until 13", &blank, appends, 96);
+    let name = "everyday, 3824 single moves on 239 pages, gathered and flushed until 13";
+    compare_tight!(name, &blank, gathered);
+    let journal = full(16);
+    compare_tight!("everyday, 100 commits refused by 1", &journal, refusals);
+    compare_tight!("everyday, 24 openings, full", &journal, openings);
+    compare_tight!("everyday, a commit, full", &journal, commit);
+    compare_tight!("everyday, pick and collect", &collectible(grown(16, 15)), collection);
+    for (name, journal) in [("almost full", almost_full(256)), ("mostly clean", grown(256, 24))] {
+        let name = format!("everyday, 256 blocks, {name}");
+        compare_tight!(&format!("{name}, a group of 2"), &journal, append, 2);
+        compare_tight!(&format!("{name}, a group of 24"), &journal, append, 24);
+        compare_tight!(&format!("{name}, 24 openings"), &journal, openings);
+        compare_tight!(&format!("{name}, a commit"), &journal, commit);
+        compare_tight!(&format!("{name}, pick and collect"), &collectible(journal), collection);
     }
 }
 

@@ -3,6 +3,7 @@
 
 use crate::proved::{self, VjState};
 use crate::reader::{self, Entry, Record, Refused, State, WordAt, MAX_BLOCKS, PAGE_BYTES};
+use crate::tight_writer;
 use crate::writer::{self, Pending, Step};
 use std::fmt::Debug;
 
@@ -18,6 +19,9 @@ pub struct Proved;
 
 /// The second implementation.
 pub struct Second;
+
+/// The yardstick for times, on the proved library's state.
+pub struct Tight;
 
 /// The calls of one implementation. Each has the name, the arguments and the
 /// answer that it has there.
@@ -112,6 +116,7 @@ macro_rules! calls {
 }
 
 calls!(Proved, VjState, VjState::from, meaning, formats, proved, proved);
+calls!(Tight, VjState, VjState::from, meaning, formats, tight_writer, tight_writer);
 calls!(Second, State, State::clone, State::clone, second_formats, reader, writer);
 
 /// What a state of the proved library means.

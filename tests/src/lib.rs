@@ -19,7 +19,8 @@
 //!   cuts played by either.
 //! * [`run`]: whole operations from C, over a chip whose driver can fail.
 //! * [`stack`]: how much stack a call takes.
-//! * [`tight`]: recovery as tight as it can be written, the yardstick for times.
+//! * [`tight`]: recovery as tight as it can be written, the yardstick for times;
+//!   [`tight_writer`]: the calls of every day likewise.
 //! * [`trace`]: recorded runs, their form, and what is printed for them;
 //!   [`corners`]: those made by hand.
 
@@ -44,6 +45,7 @@ pub mod run;
 #[allow(unsafe_code)]
 pub mod stack;
 pub mod tight;
+pub mod tight_writer;
 pub mod trace;
 #[allow(unsafe_code)]
 #[path = "../../include/valve_journal.rs"]

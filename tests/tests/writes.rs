@@ -15,7 +15,7 @@ use common::{
     blank, circumstances, expected_read_out, happening, lists, pending_name, read_out, refused,
     touched, valves, Given, EMPTY,
 };
-use journal_tests::calls::{Calls, Proved, Second};
+use journal_tests::calls::{Calls, Proved, Second, Tight};
 use journal_tests::dispatcher::next_operation;
 use journal_tests::grown::{some_blocks, BLOCK_COUNTS};
 use journal_tests::player::{Action, Answer, Outcome, Player, Reading};
@@ -25,6 +25,7 @@ use journal_tests::reader::{self, Entry, Refused, WordAt, BLOCK_BYTES, PAGE_BYTE
 use journal_tests::writer::{self, State, Step, Touched};
 use std::collections::BTreeMap;
 use std::fmt::Debug;
+use std::marker::PhantomData;
 use std::time::Instant;
 
 // ---------------------------------------------------------------------------
@@ -256,18 +257,20 @@ fn count(counts: &mut Counts, name: impl Into<String>) {
 }
 
 /// One life led twice: by the second implementation, with the plain history,
-/// and by the proved library on a medium and a state of its own.
-struct Twins {
+/// and by the calls of the proved library, or of the yardstick for times, on a
+/// medium and a state of its own.
+struct Twins<C: Calls<State = VjState>> {
+    calls: PhantomData<C>,
     life: Life,
     medium: Vec<u8>,
     buffer: [u8; PAGE_BYTES],
     state: Option<VjState>,
 }
 
-impl Twins {
-    fn of(life: Life) -> Twins {
+impl<C: Calls<State = VjState>> Twins<C> {
+    fn of(life: Life) -> Twins<C> {
         let state = life.state.as_ref().map(VjState::from);
-        Twins { medium: life.medium.clone(), buffer: life.buffer, life, state }
+        Twins { calls: PhantomData, medium: life.medium.clone(), buffer: life.buffer, life, state }
     }
 
     /// Both get so few serials.
@@ -294,19 +297,19 @@ impl Twins {
             self.read(reading);
         }
         let (medium, buffer, state) = (&mut self.medium[..], &mut self.buffer, &mut self.state);
-        let proved = Player::<Proved> { medium, buffer, state }.play(action);
+        let proved = Player::<C> { medium, buffer, state }.play(action);
         let second = self.life.act(action);
         assert_eq!(proved, second, "{}", happening(action, second));
         assert!(self.medium == self.life.medium, "every byte of the medium");
         assert!(self.buffer == self.life.buffer, "every byte of the buffer");
-        assert_eq!(self.state.as_ref().map(Proved::meaning), self.life.state);
+        assert_eq!(self.state.as_ref().map(C::meaning), self.life.state);
         second
     }
 
     /// A reading: both hand back the same.
     fn read(&self, reading: &Reading) {
         let (Some(proved), Some(second)) = (&self.state, &self.life.state) else { return };
-        let proved = Answer::of::<Proved>(&self.medium, proved, &self.buffer, reading);
+        let proved = Answer::of::<C>(&self.medium, proved, &self.buffer, reading);
         let second = Answer::of::<Second>(&self.medium, second, &self.buffer, reading);
         assert_eq!(proved, second);
     }
@@ -320,7 +323,7 @@ impl Twins {
         let named: Vec<u16> = buffered.chain(settings.keys().copied()).collect();
         for _ in 0..named.len().min(3) {
             let valve = random.one_of(&named);
-            let place = proved::word_at(&self.medium, state, &self.buffer, valve);
+            let place = C::word_at(&self.medium, state, &self.buffer, valve);
             let word = place.map(|at| at.read(&self.medium, &self.buffer));
             assert_eq!(word, settings.get(&valve).copied().ok_or(Refused(18)));
         }
@@ -329,7 +332,7 @@ impl Twins {
     /// Recovery now gives the log and the settings of the plain history, in
     /// both; where formatting is not finished, both say the same.
     fn check_recovery(&self, random: &mut Random) {
-        let recovered = proved::recover(&self.medium);
+        let recovered = C::recover(&self.medium);
         let replay = reader::replay(&self.medium);
         let Some(history) = &self.life.history else {
             let meaning = recovered.map(|state| state.meaning().expect("a meaning"));
@@ -344,7 +347,7 @@ impl Twins {
         self.check_log(random, history.log());
         for _ in 0..settings.len().min(3) {
             let Entry { key, word } = random.one_of(&settings);
-            assert_eq!(proved::open(&self.medium, &recovered, key), Ok(word));
+            assert_eq!(C::open(&self.medium, &recovered, key), Ok(word));
         }
     }
 
@@ -353,16 +356,21 @@ impl Twins {
     fn check_log(&self, random: &mut Random, log: &[Vec<Entry>]) {
         let length: usize = log.iter().map(Vec::len).sum();
         let lengths = [length; 3].map(|length| length + random.one_of(&[0, 1, 30]));
-        let read = read_out(proved::log_into, &self.medium, lengths);
+        let read = read_out(C::log_into, &self.medium, lengths);
         assert!(read == expected_read_out(log, lengths), "the log of {} groups", log.len());
     }
 }
 
 /// One list of calls and cuts on so many blocks, compared event by event.
-fn live(seed: u64, blocks: usize, events: u64, counts: &mut Counts) {
+fn live<C: Calls<State = VjState>>(
+    seed: u64,
+    blocks: usize,
+    events: u64,
+    counts: &mut Counts,
+) {
     let _seed = Seed(seed);
     let mut random = Random::new(seed);
-    let mut twins = Twins::of(Life::on(&mut random, blocks));
+    let mut twins = Twins::<C>::of(Life::on(&mut random, blocks));
     let mut since_cut = u64::MAX;
     for _ in 0..events {
         if twins.life.just_formatted() && random.one_in(4) {
@@ -446,7 +454,7 @@ fn lists_of_calls_and_cuts() {
     let (mut counts, start) = (Counts::new(), Instant::now());
     for life in 0..events.div_ceil(LIFE) {
         let blocks = 4 + (first + life) as usize % 13;
-        live(first + life, blocks, LIFE.min(events - life * LIFE), &mut counts);
+        live::<Proved>(first + life, blocks, LIFE.min(events - life * LIFE), &mut counts);
     }
     print_counts(&counts);
     let seconds = start.elapsed().as_secs_f64();
@@ -455,6 +463,20 @@ fn lists_of_calls_and_cuts() {
     for (least, names) in HAPPENINGS.iter().filter(|_| events >= EVENTS) {
         check_counts(&counts, *least, names);
     }
+}
+
+/// The yardstick for times says the same: fewer lists on few blocks and on many.
+#[test]
+fn lists_of_calls_and_cuts_by_the_yardstick() {
+    let mut counts = Counts::new();
+    for life in 0..40 {
+        live::<Tight>(life, 4 + life as usize % 13, LIFE, &mut counts);
+    }
+    for blocks in BLOCK_COUNTS {
+        (0..4).for_each(|seed| live::<Tight>(seed, blocks, 400, &mut counts));
+    }
+    no_step_due_is_refused(&counts);
+    check_counts(&counts, 5, MANY);
 }
 
 /// Fewer and shorter lists on each of the block counts; most of them begin with
@@ -466,7 +488,7 @@ fn lists_on_many_blocks() {
     let mut all = Counts::new();
     for blocks in BLOCK_COUNTS {
         let mut counts = Counts::new();
-        (first..first + 8).for_each(|seed| live(seed, blocks, events, &mut counts));
+        (first..first + 8).for_each(|seed| live::<Proved>(seed, blocks, events, &mut counts));
         no_step_due_is_refused(&counts);
         // Of 17 blocks only the last is such a block.
         let least = if blocks > 17 { 20 } else { 1 };
@@ -543,9 +565,9 @@ fn check_handed_back(refused: bool, given: &VjState, back: &VjState, left: Optio
 }
 
 /// What came of the calls, by call and number.
-struct Answers(BTreeMap<(&'static str, u8), usize>);
+struct Answers<C>(BTreeMap<(&'static str, u8), usize>, PhantomData<C>);
 
-impl Answers {
+impl<C: Calls<State = VjState>> Answers<C> {
     fn note<T>(&mut self, call: &'static str, answer: &Result<T, Refused>) {
         let number = answer.as_ref().err().map_or(0, |refused| refused.0);
         *self.0.entry((call, number)).or_insert(0) += 1;
@@ -575,7 +597,7 @@ impl Answers {
 
     /// A step, in both. What it leaves if it is accepted and not the last.
     fn step(&mut self, lent: &Lent) -> Option<Lent> {
-        let (after, step) = self.call("step", lent, proved::step, writer::step)?;
+        let (after, step) = self.call("step", lent, C::step, writer::step)?;
         Some(after).filter(|_| !step.finished)
     }
 
@@ -591,11 +613,14 @@ impl Answers {
     /// Every call that writes, available pages, the place of a word, and the
     /// group for wanted openings.
     fn all(&mut self, random: &mut Random, lent: &Lent) {
-        let formatting = proved::format(&lent.medium);
+        let formatting = C::format(&lent.medium);
         let expected_format = writer::format(&lent.medium);
         self.note("format", &formatting);
         let meaning = formatting.map(|state| state.meaning().expect("a meaning"));
         assert_eq!(meaning, expected_format);
+        let valve = some_valve(random, lent);
+        self.call("open", lent, |m, s, _| C::open(m, s, valve), |m, s, _| reader::open(m, s, valve));
+        self.call("pick", lent, |m, s, _| C::pick(m, s), |m, s, _| reader::pick(m, s));
         self.read(random, lent);
         self.buffer(random, lent);
         let begun = self.begin(random, lent);
@@ -615,25 +640,25 @@ impl Answers {
             self.call(
                 "append",
                 lent,
-                |m, s, b| proved::append(m, s, b, &lent_keys, &lent_words),
+                |m, s, b| C::append(m, s, b, &lent_keys, &lent_words),
                 |m, s, b| writer::append(m, s, b, &keys, &words),
             ),
             self.call(
                 "commit",
                 lent,
-                |m, s, b| proved::commit(m, s, b),
+                |m, s, b| C::commit(m, s, b),
                 |m, s, b| writer::commit(m, s, b),
             ),
             self.call(
                 "collect",
                 lent,
-                |m, s, b| proved::collect(m, s, b, block),
+                |m, s, b| C::collect(m, s, b, block),
                 |m, s, b| writer::collect(m, s, b, block),
             ),
             self.call(
                 "flush",
                 lent,
-                |m, s, b| proved::flush(m, s, b),
+                |m, s, b| C::flush(m, s, b),
                 |m, s, b| writer::flush(m, s, b),
             ),
         ];
@@ -668,7 +693,7 @@ impl Answers {
             next = self.call(
                 "buffer",
                 &lent,
-                |m, s, b| proved::buffer(m, s, b, &keys, &words),
+                |m, s, b| C::buffer(m, s, b, &keys, &words),
                 |m, s, b| writer::buffer(m, s, b, &keys, &words),
             );
         }
@@ -680,7 +705,7 @@ impl Answers {
         self.call(
             "available",
             lent,
-            |m, s, _| proved::count_available(m, s),
+            |m, s, _| C::count_available(m, s),
             |m, s, _| reader::count_available(m, s),
         );
         for _ in 0..3 {
@@ -688,7 +713,7 @@ impl Answers {
             self.call(
                 "word",
                 lent,
-                |m, s, b| proved::word_at(m, s, b, valve),
+                |m, s, b| C::word_at(m, s, b, valve),
                 |m, s, b| reader::word_at(m, s, b, valve),
             );
         }
@@ -699,7 +724,7 @@ impl Answers {
         let wanted = self.call(
             "wanted",
             lent,
-            |m, s, _| proved::wanted(m, s, &lent_records),
+            |m, s, _| C::wanted(m, s, &lent_records),
             |m, s, _| reader::wanted(m, s, &records),
         );
         assert!(lent_records == records, "the records stay");
@@ -950,7 +975,7 @@ fn any_bytes(random: &mut Random) -> Vec<u8> {
 }
 
 /// The numbers that each call may answer, 0 being no refusal.
-const NUMBERS: [(&str, &[u8]); 12] = [
+const NUMBERS: [(&str, &[u8]); 14] = [
     ("format", &[0, 1]),
     ("append", &[0, 1, 7, 8, 24, 10, 11, 12, 13, 14]),
     ("commit", &[0, 1, 7, 8, 24, 13, 14]),
@@ -961,14 +986,26 @@ const NUMBERS: [(&str, &[u8]); 12] = [
     ("step", &[0, 1, 7, 9, 6, 14, 16]),
     ("word", &[0, 1, 7, 18, 6]),
     ("available", &[0, 1, 7]),
+    ("open", &[0, 1, 7, 18, 6]),
+    ("pick", &[0, 1, 7]),
     ("wanted", &[0, 1, 7, 19, 20, 6, 11]),
     ("wanted, none", &[0]),
 ];
 
 #[test]
 fn any_medium_any_state_and_any_lists() {
+    any_of_all::<Proved>();
+}
+
+/// The yardstick for times says the same of them.
+#[test]
+fn any_medium_any_state_and_any_lists_by_the_yardstick() {
+    any_of_all::<Tight>();
+}
+
+fn any_of_all<C: Calls<State = VjState>>() {
     let first = variable("JOURNAL_SEED").unwrap_or(1);
-    let mut answers = Answers(BTreeMap::new());
+    let mut answers = Answers::<C>(BTreeMap::new(), PhantomData);
     for seed in first..first + 400 {
         let _seed = Seed(seed);
         let mut random = Random::new(!seed);

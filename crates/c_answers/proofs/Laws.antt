@@ -6,11 +6,10 @@ use native.Mathlib.Omega.{arith}
 use native.Mathlib.Decide.{decLt}
 use lib.ListN.{length, getD, set, length-set}
 use lib.Seq.{ext-getD, getD-set-same, getD-set-other}
-use lib.Dec.{eqb}
 use borrow.Author.Tests.{le-leb, lt-leb}
 use Rattle.lists.specs.Lists.{table}
 use Rattle.lists.specs.Needs.{gives, answered, andThen}
-use Rattle.lists.proofs.Laws.{answered-then, by-cases, length-table, get-table}
+use Rattle.lists.proofs.Laws.{answered-then, length-table, get-table}
 use Rattle.flash.specs.Medium.{views, pageAt}
 use Rattle.state.specs.declared.State.{State}
 use Rattle.state.specs.State.{meaning}

@@ -1,6 +1,6 @@
 -- Each call's conditions stand in the order of the papers.
 use mathlib.Core.Path.{refl}
-use Rattle.calls.specs.Orders.{numbersOf, Orders, InPapersOrder}
+use Rattle.calls.specs.Orders.{numbersOf, InPapersOrder}
 
 pub ordered : InPapersOrder
 unfolding InPapersOrder numbersOf

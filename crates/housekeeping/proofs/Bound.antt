@@ -14,7 +14,7 @@ use Rattle.lists.specs.Lists.{every, allBelow, countBelow, valueOr, Below}
 use Rattle.page.proofs.Buffer.{gathered-blank}
 use Rattle.lists.specs.Needs.{Need, need, Answer, refused, gives, andThen, under, checked}
 use Rattle.lists.specs.Cells.{Entry, Place, keysOf}
-use Rattle.lists.proofs.Laws.{by-cases, and-both, true-false, every-at, tests, checked-pass, same-refusal, given-refused}
+use Rattle.lists.proofs.Laws.{by-cases, and-both, true-false, every-at, tests, checked-pass, same-refusal, given-refused, below-all}
 use Rattle.page.specs.Pages.{Page, View, clean, spoilt, whole, ends, pagesFor, changesOf}
 use Rattle.flash.specs.Medium.{views, seen, whollyClean}
 use Rattle.index.specs.Index.{within, entriesAllowed}
@@ -26,12 +26,12 @@ use Rattle.nodes.proofs.Alive.{in-live, keys-words}
 use Rattle.state.specs.State.{idle, append, commit, collect, Held, basePages, fitWith, bufferedIn, isIdle}
 use Rattle.calls.specs.Calls.{starting, zip, listsOk, roomFor, serialsFor, holdsNone, appendNeeds, appendOf, commitNeeds, commitOf, collectNeeds, collectOf, bufferOf}
 use Rattle.dispatcher.specs.Parts.{baseEnd}
-use Rattle.dispatcher.proofs.Laws.{below-all}
 use Rattle.valve_log.specs.History.{History, Told, beganAppend, beganCommit, beganCollect, tell}
 use Rattle.valve_log.specs.Reached.{World, world, fresh, Moment, moment, withState, called, Event, happen, Reached}
 use Rattle.valve_log.proofs.Small.{zip-length}
 use Rattle.valve_log.proofs.Supply.{Witness, count-witness, spare-is}
 use Rattle.valve_log.proofs.Ready.{sound-part, no-room}
+use Rattle.valve_log.proofs.Events.{no-groups}
 use Rattle.dispatcher.specs.Dispatch.{greatestSerial, endsBase, newer, Next, naming, collection, roomMaker, answers13, nextOf}
 use Rattle.housekeeping.specs.Bound.{Finishes, namedIn, appendIn, lets-in, commits, collects, commitsIn, collectionsIn, Bounded, Bound, Sharper, SmallGroups}
 use Rattle.housekeeping.proofs.Counting.{count-two, Two, two, One, one, live-two, live-few}
@@ -82,10 +82,6 @@ full-of n v s bs ks ws e =
 
 -- ---- a group that the write buffer turns away with 13
 
-none-in : (gs : List (List Entry)) → eqb (length gs) 0 ≡ true → gs ≡ []
-none-in [] e = refl
-none-in (g ∷ gs) e = absurd (let z : length (g ∷ gs) ≡ 0 = eqb-true (length (g ∷ gs)) 0 e in omega arith)
-
 more-room : (v : List View) (h : Head) (n : ℕ) → 1 ≤ n → roomFor v h (1 + 16) ≡ false → roomFor v h (pagesFor n + 16) ≡ false
 unfolding roomFor pagesFor
 more-room v h n k e = lt-leb ((n + 23) / 24 + 16) (available v h) (let z : available v h < 1 + 16 = leb-false (1 + 16) (available v h) e in omega arith)
@@ -96,7 +92,7 @@ some-entry ks ws e = leb-true 1 (length ks) (every-at 1 _ e)
 
 none-held : (b : List ℕ) → holdsNone b ≡ true → bufferedIn b ≡ []
 unfolding holdsNone
-none-held b e = none-in (bufferedIn b) e
+none-held b e = no-groups (bufferedIn b) e
 
 -- what the buffer's 13 says
 record Turned (n : ℕ) (v : List View) (s : Held) (b ks ws : List ℕ) : Type 0 where
@@ -382,9 +378,6 @@ module _ {m : List ℕ} {s : Held} {h : History} (K : Known m s h) (rests : s .p
 
   fulls : Full v s ks ws
   fulls = full-of (length m) v s fresh ks ws full13
-
-  abbrev offer₀ : Offer s ks ws
-  offer₀ = fulls .offer
 
   few : pagesFor (length ks) ≤ 4
   few = few-pages ks ws (fulls .offer .lists)

@@ -11,7 +11,7 @@ use lib.ListN.{length, set, length-append}
 use borrow.Author.Tests.{ltb-true, leb-true, eqb-true, eq-eqb, ne-eqb, eqb-false, not-true}
 use Rattle.lists.specs.Lists.{all, valueOr}
 use Rattle.lists.specs.Cells.{Entry, Place}
-use Rattle.lists.proofs.Laws.{and-l, and-r, and-both, true-false, all-head, all-tail, all-weaken}
+use Rattle.lists.proofs.Laws.{and-l, and-r, and-both, true-false, all-head, all-tail, all-weaken, or-right}
 use Rattle.page.specs.Pages.{Page, View, clean, spoilt, whole, isClean, isWhole}
 use Rattle.page.proofs.Berger.{Turned, kept, torn, blanked}
 use Rattle.flash.specs.Medium.{seen}
@@ -76,10 +76,6 @@ pub record There (v : List View) (n : ℕ) : Type 0 where
   pub page : Page
   pub is : seen v at ≡ whole page
   pub serial : suc (page .serial) ≡ n
-
-or-right : (a b : Bool) → b ≡ true → (a || b) ≡ true
-or-right true b h = refl
-or-right false b h = h
 
 or-left : (a b : Bool) → a ≡ true → (a || b) ≡ true
 or-left true b h = refl

@@ -11,7 +11,7 @@ use borrow.Author.Tests.{le-leb, leb-true}
 use Rattle.lists.specs.Lists.{all, every, oneIf, countBelow, Below}
 use Rattle.lists.specs.Needs.{gives, under}
 use Rattle.lists.specs.Cells.{cell, Entry, Place}
-use Rattle.lists.proofs.Laws.{by-cases, true-false}
+use Rattle.lists.proofs.Laws.{by-cases, true-false, below-all}
 use Rattle.codec.specs.Codec.{blank}
 use Rattle.codec.proofs.Put.{length-blank, bytes-blank}
 use Rattle.page.specs.Pages.{Page, View, clean, spoilt, whole, page, isClean, pagesFor}
@@ -23,7 +23,6 @@ use Rattle.blocks.specs.Blocks.{sizeOk, spare, available, pageDue}
 use Rattle.state.specs.State.{idle, append, Held, held, bufferedIn, isIdle}
 use Rattle.calls.specs.Calls.{starting, zip, listsOk, roomFor, serialsFor, appendOf, formatting, formatOf}
 use Rattle.step.specs.Step.{Step, isLast, groupPage, headAfter, addressedFrom, addressed, appended, appendStep, due}
-use Rattle.dispatcher.proofs.Laws.{below-all}
 use Rattle.valve_log.specs.History.{History, start, beganAppend, counted, tell}
 use Rattle.valve_log.specs.Reached.{World, world, fresh, lentAnew, moment, Event, happen, Reached}
 use Rattle.valve_log.specs.Finished.{stepsOn, Finished, FormattingFinishes}

@@ -14,7 +14,7 @@ use Rattle.lists.specs.declared.Cell.{Cell}
 use Rattle.lists.specs.Lists.{all, every}
 use Rattle.lists.specs.Needs.{need, Answer, gives}
 use Rattle.lists.specs.Cells.{Entry, Place}
-use Rattle.lists.proofs.Laws.{by-cases, true-false, every-at, tests, checked-pass, all-take, held-stop}
+use Rattle.lists.proofs.Laws.{by-cases, true-false, every-at, tests, checked-pass, all-take, held-stop, below-all}
 use Rattle.page.specs.Pages.{Page, View, clean, spoilt, whole, page, ends, isClean, pagesFor}
 use Rattle.flash.specs.Medium.{views, seen, whollyClean, programmed, erased}
 use Rattle.flash.proofs.Laws.{length-views, clean-in}
@@ -30,7 +30,7 @@ use Rattle.calls.specs.Calls.{serialsFor}
 use Rattle.step.specs.Step.{Step, isLast, groupPage, headAfter, addressed, appended, committed, collected, erasing, programsDue, needsErase}
 use Rattle.step.specs.Step.{erasedFirst, pageNeeds, programming, appendStep, commitStep, moveStep, collectStep, due, stepOf, mediumAfter, bufferAfter}
 use Rattle.step.proofs.Laws.{needs-erase, first-none, erase-due as first-due}
-use Rattle.valve_log.specs.History.{UnderWay, collecting, History, steppedPage, steppedBlock, counted, tell}
+use Rattle.valve_log.specs.History.{collecting, History, steppedPage, steppedBlock, counted, tell}
 use Rattle.valve_log.specs.Reached.{World, world, fresh, Moment, moment, withState, stepDue, Event, stepped, happen, finishes, Reached}
 use Rattle.valve_log.proofs.Index.{valves}
 use Rattle.valve_log.proofs.Groups.{ends-page}
@@ -40,7 +40,7 @@ use Rattle.valve_log.proofs.Moves.{unique-live, live-in-block, moves-out}
 use Rattle.valve_log.proofs.Coupling.{Alive, alive-of}
 use Rattle.valve_log.proofs.Lent.{lent-of, with-fit}
 use Rattle.valve_log.proofs.Views.{clean-same}
-use Rattle.valve_log.proofs.Due.{Good, Programs, Erases, old-page}
+use Rattle.valve_log.proofs.Due.{Good, Programs, Erases, old-page, counted-collect}
 use Rattle.valve_log.proofs.Events.{Upheld, sized, there, block-there, erase-cut, due-good}
 use Rattle.valve_log.proofs.Point3.{reached-upheld}
 use Rattle.valve_log.proofs.Supply.{below-same, clean-elsewhere, spare-is, spare-other, spare-clean, Which, in-head, new-head, due-page, available-after}
@@ -49,7 +49,7 @@ use Rattle.valve_log.proofs.Steady.{StateReady, reached-ready}
 use Rattle.valve_log.proofs.Once.{erased-recorded}
 use Rattle.dispatcher.specs.Dispatch.{serialSeen, greatestBelow, greatestSerial, endsBase, newer}
 use Rattle.housekeeping.specs.Bound.{isUnfinished, Finishes}
-use Rattle.dispatcher.proofs.Laws.{below-all, greatest-most, greatest-least}
+use Rattle.dispatcher.proofs.Laws.{greatest-most, greatest-least}
 use Rattle.housekeeping.proofs.Counting.{count-more}
 use Rattle.housekeeping.proofs.Places.{not-spoilt, There, serial-below, newest-there, Stands}
 use Rattle.housekeeping.proofs.Lives.{StateStands, reached-places}
@@ -545,10 +545,6 @@ pub record CollectDone (m : List ℕ) (s : Held) (h : History) (j : ℕ) : Type 
   pub serials : s′ .head .serial ≤ s .head .serial + j
   pub supply : available (views m) (s .head) + 16 ≤ j + available (views m′) (s′ .head)
 
-counted-collecting : (h : History) (u : UnderWay) → u ≡ collecting → counted h u ≡ h
-unfolding counted
-counted-collecting h u e = rw e
-
 module _ {m : List ℕ} {s : Held} {h : History} (K : Known m s h) (b : ℕ) (e : s .pending ≡ collect b) where
   abbrev head : Head
   head = s .head
@@ -702,7 +698,7 @@ module _ {m : List ℕ} {s : Held} {h : History} (K : Known m s h) (b : ℕ) (e 
         → ((m′ : List ℕ) (records : List Bool) (K′ : Known m′ (moved-state records) h) → CollectDone m′ (moved-state records) h j) → CollectDone m s h (suc j)
     unfolding headAfter
     collect-goes j u W ih =
-        let K′ : Known (W .m′) (moved-state (W .records)) h = rw (counted-collecting h (h .underWay) u) at (W .goes-on .knows) in
+        let K′ : Known (W .m′) (moved-state (W .records)) h = rw (counted-collect h (h .underWay) u) at (W .goes-on .knows) in
         let D = ih (W .m′) (W .records) K′ in
         let a : available (views m) (s .head) ≤ suc (available (views (W .m′)) (headAfter (s .head) at (s .head .base))) =
         rw (W .sees) (available-after (views m) (s .head) at (s .head .base) (whole text) (K .ready .heads) which-page) in

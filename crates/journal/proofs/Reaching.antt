@@ -38,6 +38,7 @@ use Rattle.journal.specs.Housekeeping.{Answers13, ArisesInRun, PossibleO
 use Rattle.journal.proofs.Chain.{moves, answers-told, answers-meanwhile, answers-finished}
 use Rattle.journal.proofs.Started.{stateOf, state-same, answered}
 use Rattle.journal.proofs.Housekeeping.{supplied}
+use Rattle.journal.proofs.Weak.{moves-kept}
 
 -- ---- an event has an answer, or changes nothing
 
@@ -133,15 +134,11 @@ record FormattingTo (w : World) : Type 0 where
   kept : Kept weak (meant (x .state))
 
 -- what is known of the state after a move
-kept-on : (weak : Weak) (x y : Machine) (e : Event (worldOf x)) → Moves x e y → Kept weak (meant (x .state)) → Kept (weakAfter (worldOf x) e weak) (meant (y .state))
-kept-on weak x y e v K =
-    subst (λ (w : World). Kept (weakAfter (worldOf x) e weak) (w .state)) (sym (moves x y e v)) (event-kept weak (x .medium) (meant (x .state)) (x .buffer) e K)
-
 format-on : (x : Machine) → Formatting x → (weak : Weak) → Kept weak (meant (x .state)) → (e : Event (worldOf x)) → meanwhile (worldOf x) e ≡ true → FormattingTo (happen (worldOf x) e .after)
 format-on x U weak K e k = go (goes weak (x .medium) (x .state) (x .buffer) e K)
   where
     go : Goes x e → FormattingTo (happen (worldOf x) e .after)
-    go (moves-to y v) = record { x = y; is = moves x y e v; under-way = Formatting.next x y e U v (answers-meanwhile x y e v ∙ k); weak = weakAfter (worldOf x) e weak; kept = kept-on weak x y e v K }
+    go (moves-to y v) = record { x = y; is = moves x y e v; under-way = Formatting.next x y e U v (answers-meanwhile x y e v ∙ k); weak = weakAfter (worldOf x) e weak; kept = moves-kept weak x y e v K }
     go (stays q) = subst (λ (t : Moment). FormattingTo (t .after)) (sym q) (record { x = x; is = refl; under-way = U; weak = weak; kept = K })
 
 formats-to : (w : World) → reached.Formatting w → FormattingTo w
@@ -180,7 +177,7 @@ start-on x U weak K f = go (step-goes weak (x .medium) (x .state) (x .buffer) K)
           is = ap lentAnew (moves x y Event.step v);
           run = Run.start x y U v (answers-finished x y v ∙ f);
           weak = weakAfter (worldOf x) Event.step weak;
-          kept = kept-on weak x y Event.step v K;
+          kept = moves-kept weak x y Event.step v K;
         }
     go (refuses n q) = true-false f (ap finishes q)
 
@@ -191,7 +188,7 @@ run-on x h R weak K e = go (goes weak (x .medium) (x .state) (x .buffer) e K)
     go : Goes x e → RunTo (happen (worldOf x) e .after) (tell h (happen (worldOf x) e .told))
     go (moves-to y v) =
         let R′ = subst (λ (t : Told). Run y (tell h t)) (answers-told x y e v) (Run.next x y h e R v) in
-        record { x = y; is = moves x y e v; run = R′; weak = weakAfter (worldOf x) e weak; kept = kept-on weak x y e v K }
+        record { x = y; is = moves x y e v; run = R′; weak = weakAfter (worldOf x) e weak; kept = moves-kept weak x y e v K }
     go (stays q) = subst (λ (t : Moment). RunTo (t .after) (tell h (t .told))) (sym q) (record { x = x; is = refl; run = R; weak = weak; kept = K })
 
 runs-to : (w : World) (h : History) → Reached w h → RunTo w h

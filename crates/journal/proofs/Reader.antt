@@ -1,17 +1,13 @@
 -- What the log reader gives after a run is the history's log.
-use mathlib.Core.Path.{_≡_, refl, sym, ap, subst, _∙_}
-use mathlib.Core.List.{List, [], _∷_}
+use mathlib.Core.Path.{sym, ap, subst, _∙_}
+use mathlib.Core.List.{List, []}
 use Prim.Native.Nat.{ℕ}
-use lib.ListN.{length}
 use Rattle.lists.specs.Cells.{cell, Entry}
 use Rattle.page.specs.Pages.{changesOf}
-use Rattle.flash.specs.Medium.{views}
-use Rattle.recovery.specs.Recovery.{Recovery, recover}
-use Rattle.state.specs.State.{Held}
 use Rattle.readings.specs.Readings.{numbersFrom}
 use Rattle.log_reader.specs.declared.LogPlace.{LogPlace}
 use Rattle.log_reader.specs.declared.ReadChange.{ReadChange}
-use Rattle.log_reader.specs.Reader.{changeFrom, startPlace, startOf, noMore, Reads, over, more}
+use Rattle.log_reader.specs.Reader.{startPlace, startOf, noMore, Reads, over, more}
 use Rattle.log_reader.proofs.FirstToLast.{reads-log}
 use Rattle.valve_log.specs.History.{History}
 use Rattle.valve_log.specs.Reached.{Shows, Point3}

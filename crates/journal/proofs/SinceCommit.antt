@@ -1,14 +1,13 @@
 -- Paper 7 of the code.
-use mathlib.Core.Path.{_≡_, refl, sym, ap, _∙_, subst}
-use mathlib.Core.Bool.{true, false, cond}
-use mathlib.Core.List.{List, []}
+use mathlib.Core.Path.{_≡_, sym, ap, _∙_, subst}
+use mathlib.Core.List.{List}
 use Prim.Native.Nat.{ℕ, _-_}
 use native.Mathlib.Omega.{arith}
 use lib.Dec.{eqb}
-use lib.ListN.{length, take}
+use lib.ListN.{length}
 use lib.Seq.{take-all}
 use borrow.Author.Tests.{le-leb}
-use Rattle.lists.specs.Needs.{Answer, refused, gives, answered, under, andThen}
+use Rattle.lists.specs.Needs.{refused, gives, answered, under, andThen}
 use Rattle.lists.specs.Cells.{Entry, Setting, listed}
 use Rattle.lists.proofs.Laws.{by-cases}
 use Rattle.flash.specs.Medium.{views}
@@ -22,8 +21,8 @@ use Rattle.valve_log.specs.History.{History}
 use Rattle.valve_log.specs.Reached.{Words, Shows, Point3}
 use Rattle.valve_log.proofs.Point3.{point3}
 use Rattle.valve_log.proofs.SinceCommit.{Since, start-since, tell-since, since-effect}
-use Rattle.journal.specs.Run.{Machine, worldOf, toldBy, Run, Handed, Point3OfCode}
-use Rattle.journal.specs.SinceCommit.{lastCommittedIn, EffectTold, EffectExplainsOfCode}
+use Rattle.journal.specs.Run.{Machine, worldOf, toldBy, Run, Point3OfCode}
+use Rattle.journal.specs.SinceCommit.{lastCommittedIn, EffectExplainsOfCode}
 use Rattle.journal.proofs.Chain.{runs, point3-of-code}
 
 run-since : (x : Machine) (h : History) (R : Run x h) → Since h (lastCommittedIn x h R)

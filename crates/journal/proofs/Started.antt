@@ -5,10 +5,8 @@ use mathlib.Core.Option.{some}
 use mathlib.Core.List.{List, []}
 use Prim.Native.Nat.{ℕ, zero, suc, _/_, _≤_, _<_}
 use native.Mathlib.Omega.{arith}
-use lib.Dec.{eqb}
 use lib.ListN.{length, getD}
 use lib.Seq.{ext-getD}
-use borrow.Author.Tests.{eqb-true}
 use Rattle.lists.specs.declared.Cell.{Cell}
 use Rattle.lists.specs.declared.Cells.{Cells}
 use Rattle.lists.specs.Lists.{Bytes, first, table, oneIf}

@@ -11,7 +11,6 @@ use Rattle.lists.specs.Needs.{Answer, refused, gives}
 use Rattle.flash.specs.Medium.{views}
 use Rattle.state.specs.declared.State.{State}
 use Rattle.state.specs.State.{Held, meaning}
-use Rattle.calls.specs.Calls.{formatOf}
 use Rattle.step.specs.Step.{Step, stepOf}
 use Rattle.advance.specs.declared.Stepped.{Stepped}
 use Rattle.advance.specs.Outcomes.{Outcome, page, touchedBy, doneOf, done, performed, Steps}
@@ -25,7 +24,7 @@ use Rattle.journal.proofs.Chain.{formats, moves}
 
 -- ---- what the state knows of weak blocks, along the run
 
-moves-kept : (weak : Weak) (x y : Machine) (e : Event (worldOf x)) → Moves x e y → Kept weak (meant (x .state)) → Kept (weakAfter (worldOf x) e weak) (meant (y .state))
+pub moves-kept : (weak : Weak) (x y : Machine) (e : Event (worldOf x)) → Moves x e y → Kept weak (meant (x .state)) → Kept (weakAfter (worldOf x) e weak) (meant (y .state))
 moves-kept weak x y e v K = subst (λ (w : World). Kept (weakAfter (worldOf x) e weak) (w .state)) (sym (moves x y e v)) (event-kept weak (x .medium) (meant (x .state)) (x .buffer) e K)
 
 format-kept : (weak : Weak) (x : Machine) (F : Formatting x) → Kept (weakInFormat weak x F) (meant (x .state))

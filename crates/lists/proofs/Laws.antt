@@ -1,18 +1,19 @@
 -- Laws of tests, scans, tables and counted arrays.
 use mathlib.Core.Path.{_≡_, refl, sym, ap, _∙_}
-use mathlib.Core.Bool.{Bool, true, false, not, _&&_}
+use mathlib.Core.Bool.{Bool, true, false, not, _&&_, _||_}
+use mathlib.Core.Option.{none, some}
 use mathlib.Core.List.{List, [], _∷_, _++_}
 use Prim.Native.Nat.{ℕ, zero, suc, _+_, _-_, _≤_, _<_}
 use native.Mathlib.Omega.{arith}
 use native.Mathlib.Numerals.{add-one}
 use native.Mathlib.Decide.{decLt}
-use borrow.Author.Tests.{leb-true, eqb-true, eq-eqb, ne-eqb, not-true, not-false}
+use borrow.Author.Tests.{leb-true, eqb-true, eqb-false, eq-eqb, ne-eqb, not-true, not-false}
 use lib.Dec.{leb, eqb}
 use lib.ListN.{length, getD, take, drop, replicate, length-append, length-take, length-replicate, getD-replicate, drop-of-length-le, List·getD-append, List·getD-eq-default}
 use lib.Seq.{drop-cons, ext-getD, getD-drop, getD-take, getD-append-add, getD-append-seam}
 use Rattle.lists.specs.declared.Cell.{Cell}
 use Rattle.lists.specs.Needs.{Answer, refused, gives, answered, andThen, Need, need, under, answerOr, refusalOf}
-use Rattle.lists.specs.Lists.{keep, all, every, allBelow, oneIf, countBelow, table, first, Below}
+use Rattle.lists.specs.Lists.{keep, all, every, valueOr, allBelow, oneIf, countBelow, table, first, Below}
 use Rattle.lists.specs.Cells.{cell, pairs, keysOf, wordsOf}
 
 -- ---- truth values
@@ -35,6 +36,36 @@ and-both p q = rw (p, q)
 
 pub true-false : {P : Type 0} {b : Bool} → b ≡ true → b ≡ false → P
 true-false p q = let z : _≡_ {A = ℕ} 0 1 = cc in absurd (omega arith)
+
+pub and-true : (a : Bool) → (a && true) ≡ a
+and-true true = refl
+and-true false = refl
+
+pub and-false : (a : Bool) → (a && false) ≡ false
+and-false true = refl
+and-false false = refl
+
+pub and-swap : (a b c : Bool) → (a && (b && c)) ≡ (b && (a && c))
+and-swap true b c = refl
+and-swap false true c = refl
+and-swap false false c = refl
+
+pub or-right : (a b : Bool) → b ≡ true → (a || b) ≡ true
+or-right true b h = refl
+or-right false b h = h
+
+-- two numbers are one, or are not
+pub by-eq : {P : Type 0} (a b : ℕ) → (a ≡ b → P) → ((a ≡ b → ⊥) → P) → P
+by-eq a b p q = by-cases (eqb a b) (λ e. p (eqb-true a b e)) (λ e. q (eqb-false a b e))
+
+-- ---- what is there, or is not
+
+pub some-same : {A : Type 0} {x y : A} → some x ≡ some y → x ≡ y
+unfolding valueOr
+some-same {A} {x} {y} e = ap (valueOr x) e
+
+pub none-some : {A P : Type 0} {x : A} → none ≡ some x → P
+none-some e = let z : _≡_ {A = ℕ} 0 1 = cc in absurd (omega arith)
 
 -- ---- tests over lists
 
@@ -263,6 +294,11 @@ held-next n i f h e t = record { far = omega arith; so = rw (add-one i, t .so, e
 pub held-end : (n i : ℕ) (f : ℕ → Bool) → n ≤ i → Held n i f → true ≡ allBelow n f
 held-end n i f h t = let e : i ≡ n = omega (arith, t .far) in sym (rw e at (t .so))
 
+pub below-all : (n : ℕ) (f : ℕ → Bool) → ((i : ℕ) → i < n → f i ≡ true) → allBelow n f ≡ true
+unfolding allBelow
+below-all zero f h = refl
+below-all (suc n) f h = and-both (below-all n f (λ i l. h i (omega arith))) (h n (omega arith))
+
 pub below-at : (n : ℕ) (f : ℕ → Bool) → allBelow n f ≡ true → (i : ℕ) → i < n → f i ≡ true
 unfolding allBelow
 below-at zero f h i l = absurd (omega arith)
@@ -286,7 +322,7 @@ pub counted-start : (n : ℕ) (f : ℕ → Bool) → Counted n 0 0 f
 unfolding countBelow
 counted-start n f = record { far = omega arith; low = omega arith; so = refl }
 
-one-most : (b : Bool) → oneIf b ≤ 1
+pub one-most : (b : Bool) → oneIf b ≤ 1
 unfolding oneIf
 one-most true = omega arith
 one-most false = omega arith

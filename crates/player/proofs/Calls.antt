@@ -1,25 +1,24 @@
 -- A call of a trace is played as it is recorded.
 use mathlib.Core.Path.{_≡_, refl, sym, ap, _∙_, subst}
-use mathlib.Core.Bool.{Bool, true, false, cond, _||_}
-use mathlib.Core.List.{List, [], _∷_}
-use Prim.Native.Nat.{ℕ, _+_, _*_, _≤_, _<_, min}
+use mathlib.Core.Bool.{Bool, true, false, _||_}
+use mathlib.Core.List.{List, []}
+use Prim.Native.Nat.{ℕ, _+_, _*_, _≤_, min}
 use native.Mathlib.Omega.{arith}
 use mir.Val.{Fits}
 use mir.Syntax.{w64}
 use lib.Dec.{eqb}
 use lib.ListN.{length, take}
 use lib.Seq.{length-take-le}
-use borrow.Author.Tests.{eqb-true, eq-eqb, ne-eqb}
+use borrow.Author.Tests.{eqb-true, ne-eqb}
 use Rattle.lists.proofs.Laws.{by-cases, true-false}
 use Rattle.codec.specs.Codec.{part}
 use Rattle.valve_log.specs.Reached.{World}
-use Rattle.trace.specs.Trace.{Recorded, codeAt, numberAt, hasGroup, patternSize, dataStart, numbersFrom, keysFrom, wordsFrom, recordedAs, recordedAt}
-use Rattle.trace.specs.Read.{Listed, HasCall}
+use Rattle.trace.specs.Trace.{Recorded, codeAt, numberAt, hasGroup, patternSize, numbersAt, keysFrom, wordsFrom, recordedAs, recordedAt}
 use Rattle.trace.proofs.Form.{length-numbers, numbers-taken, keys-there, words-there, words-start, pattern-there, recorded-as}
 use Rattle.player.specs.declared.Reply.{Reply}
 use Rattle.player.specs.Run as run
 use Rattle.player.specs.Run.{played}
-use Rattle.player.specs.Played.{Plays, callOf, Playable, mostBytes}
+use Rattle.player.specs.Played.{Plays, callOf, Playable}
 use Rattle.player.proofs.Long.{append-first, buffer-first}
 
 -- calls that are played alike
@@ -50,9 +49,6 @@ pub taken-few : (k n : ℕ) (xs : List ℕ) → k ≡ min n 97 → length xs ≡
 taken-few k n xs e h = sym (length-take-le k xs (omega arith))
 
 module _ (t : List ℕ) (i at : ℕ) (m b : List ℕ) (p : Playable t i at m b) where
-  pub play-listed : Listed t
-  play-listed = p .has .lists
-
   module _ (c n : ℕ) (e : c ≡ codeAt t i) (q : n ≡ numberAt t i) where
     -- the call in the words of the code
     as-recorded : (w : World) (r : Reply) (m′ b′ : List ℕ) → Plays w (recordedAs c n at t) r m′ b′ → Plays w (recordedAt t i) r m′ b′
@@ -74,7 +70,7 @@ module _ (t : List ℕ) (i at : ℕ) (m b : List ℕ) (p : Playable t i at m b) 
       pub group-start : Fits w64 (at + 2 * n)
       group-start = let x = words-start t i c n at e q (p .start) (p .has) true grouped refl in omega arith
 
-      module _ (k : ℕ) (ks ws : List ℕ) (x : k ≡ min n 97) (y : take k ks ≡ numbersFrom 2 k at t) (z : take k ws ≡ numbersFrom 8 k (at + 2 * n) t) where
+      module _ (k : ℕ) (ks ws : List ℕ) (x : k ≡ min n 97) (y : take k ks ≡ numbersAt 2 k at t) (z : take k ws ≡ numbersAt 8 k (at + 2 * n) t) where
         keys-first : take k ks ≡ take 97 (keysFrom n at t)
         keys-first = numbers-taken 2 n at t ks k x y
 

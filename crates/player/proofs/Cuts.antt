@@ -2,9 +2,9 @@
 use mathlib.Core.Path.{_≡_, refl, sym, ap, _∙_, subst}
 use mathlib.Core.Bool.{Bool, true, false, not, cond}
 use mathlib.Core.Option.{Option, none, some}
-use mathlib.Core.List.{List, [], _∷_, _++_, append-nil}
+use mathlib.Core.List.{List, [], _∷_, append-nil}
 use Prim.Native.Nat.{ℕ, zero, suc, _+_, _-_, _*_, _/_, _%_, _^_, _≤_, _<_, max}
-use native.Mathlib.Nat.{add-zero, zero-add, two-pow-succ}
+use native.Mathlib.Nat.{add-zero, zero-add}
 use native.Mathlib.Numerals.{add-one}
 use native.Mathlib.Omega.{arith}
 use lib.Bits.{bitOr, or-step}
@@ -14,12 +14,12 @@ use lib.Seq.{drop-cons, drop-set-lt, length-take-le}
 use borrow.Author.Tests.{eqb-true, eq-eqb, ne-eqb, not-true, not-false}
 use Rattle.lists.specs.Needs.{Answer, refused, gives}
 use Rattle.lists.proofs.Laws.{by-cases, true-false}
-use Rattle.codec.specs.Codec.{part, putAt, blank}
+use Rattle.codec.specs.Codec.{putAt, blank}
 use Rattle.codec.proofs.Put.{put-sets, Putting, put-start, put-next, list-end, blank-next, blank-end, length-blank}
 use Rattle.flash.specs.Medium.{views}
 use Rattle.page.specs.Buffer.{bufferBytes, emptyBuffer}
 use Rattle.state.specs.declared.State.{State}
-use Rattle.state.specs.State.{Held, meaning}
+use Rattle.state.specs.State.{meaning}
 use Rattle.step.specs.Step.{Step, program, erase, stepOf, mediumAfter}
 use Rattle.advance.specs.declared.Stepped.{Stepped}
 use Rattle.advance.specs.Outcomes as outcomes
@@ -27,19 +27,16 @@ use Rattle.advance.specs.Outcomes.{Outcome, touchedBy, doneOf, done, outcome, p
 use Rattle.journal.proofs.Chain.{done-is}
 use Rattle.valve_log.specs.Reached.{World, world, withState, stepDue, cutShort, fresh}
 use Rattle.trace.specs.Trace.{Recorded}
+use Rattle.bits.proofs.Laws.{half-below}
 use Rattle.player.specs.declared.LastState.{LastState}
 use Rattle.player.specs.declared.Reply.{Reply}
-use Rattle.player.specs.Cuts.{raised, raisedBytes, raisedAt, leftBy}
-use Rattle.player.specs.Lines.{Line}
+use Rattle.player.specs.Cuts.{raised, raisedBytes, raisedAt, leftByCut}
 use Rattle.player.specs.Run as run
-use Rattle.player.specs.Run.{goesOn, endsWith, nameOf, playedCut, played}
+use Rattle.player.specs.Run.{runGoesOn, runEndsWith, nameOf, playedCut, played}
 use Rattle.player.specs.Played.{worldBy, heldBy, linesBy, Plays, refusedBy, lostBy, Struck, struck, struckBy, struckAfter, mostBytes}
 use Rattle.player.proofs.Laws.{none-set, held-world, lost-world, ended-plays, held-plays, holds}
 
 -- ---- bits
-
-half-below : (k x : ℕ) → x < 2 ^ suc k → x / 2 < 2 ^ k
-half-below k x h = omega (arith, two-pow-succ k)
 
 or-raised : (k x y : ℕ) → x < 2 ^ k → y < 2 ^ k → bitOr x y ≡ raised k x y
 unfolding raised
@@ -63,7 +60,7 @@ put-all : (m xs : List ℕ) → length xs ≡ length m → putAt m 0 xs ≡ xs
 unfolding putAt
 put-all m xs e = let z : drop (0 + length xs) m ≡ [] = drop-of-length-le m {i = 0 + length xs} (omega arith) in rw z (append-nil xs)
 
-raised-long : (xs ys : List ℕ) → length (raisedBytes xs ys) ≡ length xs
+pub raised-long : (xs ys : List ℕ) → length (raisedBytes xs ys) ≡ length xs
 unfolding raisedBytes
 raised-long [] ys = refl
 raised-long (x ∷ xs) [] = refl
@@ -213,7 +210,7 @@ module _ (m copy : List ℕ) (name : ℕ) (pattern : List ℕ) where
 
   -- and by the definitions' step
   due-struck : (s : State) (a : Answer Step) → copy ≡ mediumAfter m a → struckDone m copy name pattern (some (done s a)) ≡ struckBy m name pattern a
-  unfolding struckDone struckBy done mediumAfter nameOf leftBy
+  unfolding struckDone struckBy done mediumAfter nameOf leftByCut
   due-struck s (refused n) e = refl
   due-struck s (gives (program p pg h finished)) e = rw e
   due-struck s (gives (erase b h finished)) e = refl
@@ -263,7 +260,7 @@ module _ (m b : List ℕ) (s : State) (name : ℕ) (pattern m′ : List ℕ) whe
   missed-medium (gives d) e =
       by-cases (eqb name (nameOf d)) (λ q. true-false (ap (λ (x : Struck). x .so) (rw q at e)) refl) (λ q. ap (λ (x : Struck). x .medium) (rw q at e))
 
-  missed-ends : (a : Answer Step) → struck false m′ ≡ struckBy m name pattern a → playedCut (holds m s b) name pattern a ≡ endsWith (holds m s b) 27
+  missed-ends : (a : Answer Step) → struck false m′ ≡ struckBy m name pattern a → playedCut (holds m s b) name pattern a ≡ runEndsWith (holds m s b) 27
   unfolding struckBy playedCut
   missed-ends (refused n) e = refl
   missed-ends (gives d) e = by-cases (eqb name (nameOf d)) (λ q. true-false (ap (λ (x : Struck). x .so) (rw q at e)) refl) (λ q. rw q)
@@ -275,11 +272,11 @@ module _ (m b : List ℕ) (s : State) (name : ℕ) (pattern m′ : List ℕ) whe
   cut-goes b′ (gives d) f e y =
       by-cases (eqb name (nameOf d))
       (λ q.
-      let k : m′ ≡ leftBy m d pattern = ap (λ (x : Struck). x .medium) (rw q at e) in
-      let g : played (holds m s b) (Recorded.cut name pattern) ≡ goesOn (cutShort (holds m s b) (leftBy m d pattern) (gives d)) [] = f ∙ rw q in
+      let k : m′ ≡ leftByCut m d pattern = ap (λ (x : Struck). x .medium) (rw q at e) in
+      let g : played (holds m s b) (Recorded.cut name pattern) ≡ runGoesOn (cutShort (holds m s b) (leftByCut m d pattern) (gives d)) [] = f ∙ rw q in
       record {
         after =
-            ap (λ (x : List ℕ). world x none b′) k ∙ ap (λ (x : List ℕ). world (leftBy m d pattern) none x) y ∙ sym (cut-after (holds m s b) (leftBy m d pattern) d)
+            ap (λ (x : List ℕ). world x none b′) k ∙ ap (λ (x : List ℕ). world (leftByCut m d pattern) none x) y ∙ sym (cut-after (holds m s b) (leftByCut m d pattern) d)
             ∙ ap (λ (t : run.Turn). t .moment .after) (sym g);
         lines = ap (λ (t : run.Turn). t .lines) (sym g);
         ends = ap (λ (t : run.Turn). t .ends) (sym g);
@@ -290,15 +287,15 @@ module _ (m b : List ℕ) (s : State) (name : ℕ) (pattern m′ : List ℕ) whe
 module _ (m b : List ℕ) (l : LastState) (r : Reply) (name : ℕ) (pattern : List ℕ) where
   pub cut-lost : l .lost ≡ true → r ≡ refusedBy 27 true l → Plays (worldBy m l b) (Recorded.cut name pattern) r m b
   unfolding played playedCut stepDue withState
-  cut-lost q e = ended-plays m b l (Recorded.cut name pattern) r 27 refl (subst (λ (w : World). played w (Recorded.cut name pattern) ≡ endsWith w 27) (sym (lost-world m b l q)) refl) e
+  cut-lost q e = ended-plays m b l (Recorded.cut name pattern) r 27 refl (subst (λ (w : World). played w (Recorded.cut name pattern) ≡ runEndsWith w 27) (sym (lost-world m b l q)) refl) e
 
   module _ (m′ : List ℕ) (x : Bool) (q : l .lost ≡ false) (p : struck x m′ ≡ struckBy m name pattern (stepOf (length m) (views m) (meaning (l .state)) b)) where
     pub cut-missed : not x ≡ true → r ≡ refusedBy 27 true l → Plays (worldBy m l b) (Recorded.cut name pattern) r m′ b
     unfolding played stepDue withState
     cut-missed h e =
         let f : struck false m′ ≡ struckBy m name pattern (stepOf (length m) (views m) (meaning (l .state)) b) = ap (λ (y : Bool). struck y m′) (sym (not-true x h)) ∙ p in
-        let g : played (worldBy m l b) (Recorded.cut name pattern) ≡ endsWith (worldBy m l b) 27 =
-        subst (λ (w : World). played w (Recorded.cut name pattern) ≡ endsWith w 27) (sym (held-world m b l q)) (missed-ends m b (l .state) name pattern m′ _ f) in
+        let g : played (worldBy m l b) (Recorded.cut name pattern) ≡ runEndsWith (worldBy m l b) 27 =
+        subst (λ (w : World). played w (Recorded.cut name pattern) ≡ runEndsWith w 27) (sym (held-world m b l q)) (missed-ends m b (l .state) name pattern m′ _ f) in
         subst (λ (y : List ℕ). Plays (worldBy m l b) (Recorded.cut name pattern) r y b) (sym (missed-medium m b (l .state) name pattern m′ _ f))
         (ended-plays m b l (Recorded.cut name pattern) r 27 refl g e)
 

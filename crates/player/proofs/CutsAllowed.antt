@@ -19,8 +19,9 @@ use Rattle.flash.specs.Cuts.{bitAt, Cut, CutProgram, CutErase}
 use Rattle.flash.proofs.Steps.{AllGuarded, program-length, program-outside, program-guarded}
 use Rattle.state.specs.State.{Held}
 use Rattle.step.specs.Step.{program, erase}
+use Rattle.player.proofs.Cuts.{raised-long}
 use Rattle.player.specs.CutBits.{Patterned, LeavesByPattern}
-use Rattle.player.specs.Cuts.{raised, raisedBytes, raisedAt, leftBy}
+use Rattle.player.specs.Cuts.{raised, raisedBytes, raisedAt, leftByCut}
 
 -- ---- one byte
 
@@ -42,12 +43,6 @@ raised-below zero x y = omega arith
 raised-below (suc k) x y = omega (arith, two-pow-succ k, raised-below k (x / 2) (y / 2))
 
 -- ---- bytes
-
-raised-long : (xs ys : List ℕ) → length (raisedBytes xs ys) ≡ length xs
-unfolding raisedBytes
-raised-long [] ys = refl
-raised-long (x ∷ xs) [] = refl
-raised-long (x ∷ xs) (y ∷ ys) = ap suc (raised-long xs ys)
 
 raised-at : (xs ys : List ℕ) (i : ℕ) → i < length xs → i < length ys → getD (raisedBytes xs ys) i 0 ≡ raised 8 (getD xs i 0) (getD ys i 0)
 unfolding raisedBytes
@@ -124,18 +119,18 @@ module _ (m other pattern : List ℕ) (a n : ℕ) (long : length pattern ≡ n) 
 -- ---- the two cuts
 
 pub program-cut : (m pattern : List ℕ) (p : ℕ) (pg : Page) → length pattern ≡ 256 → 256 * p + 256 ≤ length m → length (pg .entries) ≤ 24 → AllGuarded m
-    → (s : Held) (finished : Bool) → CutProgram m p pg (leftBy m (program p pg s finished) pattern)
-unfolding CutProgram leftBy
+    → (s : Held) (finished : Bool) → CutProgram m p pg (leftByCut m (program p pg s finished) pattern)
+unfolding CutProgram leftByCut
 program-cut m pattern p pg long there few g s finished =
     raised-cut m (programmed m p pg) pattern (256 * p) 256 long there (program-length m p pg there few) (program-guarded m p pg there few g .bytes) (program-outside m p pg there few)
 
 pub erase-cut : (m pattern : List ℕ) (b : ℕ) → length pattern ≡ 4096 → 4096 * b + 4096 ≤ length m → Bytes m
-    → (s : Held) (finished : Bool) → CutErase m b (leftBy m (erase b s finished) pattern)
-unfolding CutErase leftBy
+    → (s : Held) (finished : Bool) → CutErase m b (leftByCut m (erase b s finished) pattern)
+unfolding CutErase leftByCut
 erase-cut m pattern b long there bytes s finished = raised-cut m m pattern (4096 * b) 4096 long there refl bytes (λ i o. refl)
 
 pub leaves-by-pattern : LeavesByPattern
-unfolding leftBy
+unfolding leftByCut
 leaves-by-pattern =
     record {
       programs = λ m p pg s finished pattern h. patterned (programmed m p pg) (256 * p) pattern h;

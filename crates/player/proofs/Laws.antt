@@ -3,13 +3,13 @@ use mathlib.Core.Path.{_≡_, refl, sym, ap, _∙_, subst}
 use mathlib.Core.Bool.{Bool, true, false, not, cond}
 use mathlib.Core.Option.{Option, none, some}
 use mathlib.Core.List.{List, [], _∷_}
-use Prim.Native.Nat.{ℕ, zero, suc, _+_, _-_, _*_, _≤_, _<_}
+use Prim.Native.Nat.{ℕ, zero, suc, _+_, _-_, _≤_, _<_}
 use native.Mathlib.Omega.{arith}
 use mir.Val.{Fits}
 use mir.Syntax.{w64}
 use lib.Dec.{eqb}
 use lib.ListN.{length, take, getD, List·getD-eq-default}
-use borrow.Author.Tests.{eqb-true, eq-eqb, ne-eqb, not-true, not-false}
+use borrow.Author.Tests.{eq-eqb, ne-eqb, not-true, not-false}
 use Rattle.lists.specs.Lists.{valueOr}
 use Rattle.lists.specs.Needs.{Answer, refused, gives, answered, andThen}
 use Rattle.lists.specs.declared.Cells.{Cells}
@@ -29,14 +29,14 @@ use Rattle.recover.specs.Recovers.{stateFound, Restores}
 use Rattle.recover.proofs.Accepted.{accepted, accepted-state, recovered-few}
 use Rattle.changes.specs.Changes.{mostKept}
 use Rattle.filing.proofs.Laws.{refused-then, log-pages, kept-short}
-use Rattle.calls.specs.Calls.{formatOf, appendOf, commitOf, collectOf, flushOf, bufferOf}
-use Rattle.step.specs.Step.{Step, stepOf, bufferAfter}
+use Rattle.calls.specs.Calls.{formatOf, appendOf, commitOf, collectOf, flushOf}
+use Rattle.step.specs.Step.{Step}
 use Rattle.begin.specs.declared.Begun.{Begun}
 use Rattle.begin.specs.Begun as begun
 use Rattle.begin.specs.Begun.{Begins}
 use Rattle.advance.specs.declared.Stepped.{Stepped}
 use Rattle.advance.specs.Outcomes as outcomes
-use Rattle.advance.specs.Outcomes.{touchedBy, doneOf, done, outcome, performed, Steps}
+use Rattle.advance.specs.Outcomes.{touchedBy, doneOf, done, Steps}
 use Rattle.valve_log.specs.History.{Told}
 use Rattle.valve_log.specs.Reached.{World, world, withState, stepDue, called, filled, stepped, recovered, still}
 use Rattle.journal.proofs.Chain.{none-such, begins, fills, steps, numbered, buffer-numbered, done-is}
@@ -47,9 +47,9 @@ use Rattle.player.specs.declared.Recalled.{Recalled}
 use Rattle.player.specs.declared.PrintedLine.{PrintedLine}
 use Rattle.player.specs.Lines.{Line, settingLines, summary, refusalLines, recoveryLines}
 use Rattle.player.specs.Run as run
-use Rattle.player.specs.Run.{withHeld, goesOn, endsWith, played}
+use Rattle.player.specs.Run.{withHeld, runGoesOn, runEndsWith, played}
 use Rattle.player.specs.Played.{heldBy, worldBy, settingsBy, linesBy, FewSet, Plays, CountsLines, GivesLine, GivesSetting, lineOf, operationOf, operationAnswer}
-use Rattle.player.specs.Played.{callOf, mostBytes, answeredBy, refusedBy, recoveredBy, Restart, restart, restartOf, Recalls}
+use Rattle.player.specs.Played.{callOf, mostBytes, answeredBy, refusedBy, restartedBy, Restart, restart, restartOf, Recalls}
 
 -- ---- replies
 
@@ -83,7 +83,7 @@ refusal-lines m n ends l q = rw q
 -- ---- calls that begin an operation
 
 module _ (m b : List ℕ) (s : State) (f : Begun) where
-  begun-plays : (c : Recorded) (t : Told) (a : Answer Held) → played (holds m s b) c ≡ goesOn (called (holds m s b) t a) (refusalLines a)
+  begun-plays : (c : Recorded) (t : Told) (a : Answer Held) → played (holds m s b) c ≡ runGoesOn (called (holds m s b) t a) (refusalLines a)
       → Begins s a f → Plays (holds m s b) c (answeredBy (f .number) (f .state)) m b
   unfolding worldBy heldBy
   begun-plays c t a e p =
@@ -107,7 +107,7 @@ module _ (m b : List ℕ) (s : State) (f : Begun) where
 
 -- a call that is so answered in a world
 module _ (m b : List ℕ) (l : LastState) (c : Recorded) (r : Reply) (n : ℕ) (q : eqb n 0 ≡ false) where
-  refused-plays : played (worldBy m l b) c ≡ goesOn (still (worldBy m l b)) (Line.refusal n ∷ []) → r ≡ refusedBy n false l → Plays (worldBy m l b) c r m b
+  refused-plays : played (worldBy m l b) c ≡ runGoesOn (still (worldBy m l b)) (Line.refusal n ∷ []) → r ≡ refusedBy n false l → Plays (worldBy m l b) c r m b
   refused-plays e f =
       subst (λ (x : Reply). Plays (worldBy m l b) c x m b) (sym f)
       (record {
@@ -117,7 +117,7 @@ module _ (m b : List ℕ) (l : LastState) (c : Recorded) (r : Reply) (n : ℕ) (
         few = none-set _ refl;
       })
 
-  pub ended-plays : played (worldBy m l b) c ≡ endsWith (worldBy m l b) n → r ≡ refusedBy n true l → Plays (worldBy m l b) c r m b
+  pub ended-plays : played (worldBy m l b) c ≡ runEndsWith (worldBy m l b) n → r ≡ refusedBy n true l → Plays (worldBy m l b) c r m b
   ended-plays e f =
       subst (λ (x : Reply). Plays (worldBy m l b) c x m b) (sym f)
       (record {
@@ -128,11 +128,11 @@ module _ (m b : List ℕ) (l : LastState) (c : Recorded) (r : Reply) (n : ℕ) (
       })
 
 -- a call without a state
-lost-plays : (m b : List ℕ) (l : LastState) (c : Recorded) (r : Reply) → played (world m none b) c ≡ goesOn (still (world m none b)) (Line.refusal 9 ∷ [])
+lost-plays : (m b : List ℕ) (l : LastState) (c : Recorded) (r : Reply) → played (world m none b) c ≡ runGoesOn (still (world m none b)) (Line.refusal 9 ∷ [])
     → l .lost ≡ true → r ≡ refusedBy 9 false l → Plays (worldBy m l b) c r m b
 lost-plays m b l c r e q f =
     refused-plays m b l c r 9 refl
-    (subst (λ (w : World). played w c ≡ goesOn (still w) (Line.refusal 9 ∷ [])) (sym (lost-world m b l q)) e) f
+    (subst (λ (w : World). played w c ≡ runGoesOn (still w) (Line.refusal 9 ∷ [])) (sym (lost-world m b l q)) e) f
 
 -- and with one
 pub held-plays : (m b m′ b′ : List ℕ) (l : LastState) (c : Recorded) (r x : Reply) → Plays (holds m (l .state) b) c x m′ b′ → l .lost ≡ false → r ≡ x → Plays (worldBy m l b) c r m′ b′
@@ -278,7 +278,7 @@ module _ (m kept : List ℕ) (x : Restored) (t : Restores m x kept) where
 
 module _ (m b : List ℕ) (l : LastState) (r : Reply) (f : Recalled) (p : Recalls m f) where
   recovery-ends : (R : Answer Recovery) → answered (f .number) (restart (f .log) (meaning (f .state))) ≡ andThen R (λ x. gives (restartOf x)) → (f .number ≡ 0 → ⊥)
-      → run.playedRecovery (worldBy m l b) R ≡ endsWith (worldBy m l b) (f .number)
+      → run.playedRecovery (worldBy m l b) R ≡ runEndsWith (worldBy m l b) (f .number)
   unfolding run.playedRecovery andThen
   recovery-ends (refused n) e h = rw (same-refusal (f .number) n (sym (answered-refused (f .number) _ h) ∙ e))
   recovery-ends (gives x) e h = absurd (h (gave-number (f .number) _ (restartOf x) e))
@@ -289,7 +289,7 @@ module _ (m b : List ℕ) (l : LastState) (r : Reply) (f : Recalled) (p : Recall
 
   module _ (b′ : List ℕ) where
     recovery-goes : (R : Answer Recovery) → answered (f .number) (restart (f .log) (meaning (f .state))) ≡ andThen R (λ x. gives (restartOf x)) → f .number ≡ 0 → b′ ≡ emptyBuffer
-        → played (worldBy m l b) Recorded.recover ≡ run.playedRecovery (worldBy m l b) R → Plays (worldBy m l b) Recorded.recover (recoveredBy (f .log) (f .state)) m b′
+        → played (worldBy m l b) Recorded.recover ≡ run.playedRecovery (worldBy m l b) R → Plays (worldBy m l b) Recorded.recover (restartedBy (f .log) (f .state)) m b′
     unfolding run.playedRecovery andThen recovered recoveryLines summary worldBy heldBy linesBy settingsBy restartOf
     recovery-goes (refused n) e z y w = none-such (f .number) (refused-with (f .number) _ n e) z
     recovery-goes (gives x) e z y w =
@@ -306,7 +306,7 @@ module _ (m b : List ℕ) (l : LastState) (r : Reply) (f : Recalled) (p : Recall
           few = record { most = λ q. p .few z };
         }
 
-    pub recovery-accepted : f .number ≡ 0 → b′ ≡ emptyBuffer → r ≡ recoveredBy (f .log) (f .state) → Plays (worldBy m l b) Recorded.recover r m b′
+    pub recovery-accepted : f .number ≡ 0 → b′ ≡ emptyBuffer → r ≡ restartedBy (f .log) (f .state) → Plays (worldBy m l b) Recorded.recover r m b′
     unfolding played worldBy
     recovery-accepted z y e =
         subst (λ (x : Reply). Plays (worldBy m l b) Recorded.recover x m b′) (sym e) (recovery-goes (recoverOf (length m) (views m)) (p .is) z y refl)

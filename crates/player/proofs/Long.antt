@@ -19,7 +19,7 @@ use Rattle.calls.specs.Calls.{appendOf, bufferOf, listsOk, gateNeeds, shutNeeds
 use Rattle.valve_log.specs.Reached.{World, withState, still, called, filled}
 use Rattle.trace.specs.Trace.{Recorded}
 use Rattle.player.specs.Lines.{Line, refusalLines}
-use Rattle.player.specs.Run.{withHeld, appendIn, bufferIn, played, goesOn}
+use Rattle.player.specs.Run.{withHeld, appendIn, bufferIn, played, runGoesOn}
 
 -- the number of the first of some conditions that fails, or n
 unfoldable firstOr : List Need → ℕ → ℕ
@@ -65,11 +65,11 @@ module _ (w : World) where
     buffer-long : bufferIn w ks ws ≡ refused bufferNumber
     buffer-long = held-refused w _ _ (λ s. unfold bufferOf in stops (gateNeeds (length (w .medium)) (views (w .medium)) s (w .buffer)) _ 10 (listsOk ks ws) _ too-long)
 
-    played-append : played w (Recorded.append ks ws) ≡ goesOn (still w) (Line.refusal appendNumber ∷ [])
+    played-append : played w (Recorded.append ks ws) ≡ runGoesOn (still w) (Line.refusal appendNumber ∷ [])
     unfolding played called refusalLines
     played-append = rw append-long
 
-    played-buffer : played w (Recorded.buffer ks ws) ≡ goesOn (still w) (Line.refusal bufferNumber ∷ [])
+    played-buffer : played w (Recorded.buffer ks ws) ≡ runGoesOn (still w) (Line.refusal bufferNumber ∷ [])
     unfolding played filled refusalLines
     played-buffer = rw buffer-long
 

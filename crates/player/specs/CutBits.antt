@@ -10,7 +10,7 @@ use Rattle.flash.specs.Medium.{programmed}
 use Rattle.flash.specs.Cuts.{bitAt}
 use Rattle.state.specs.State.{Held}
 use Rattle.step.specs.Step.{program, erase}
-use Rattle.player.specs.Cuts.{leftBy}
+use Rattle.player.specs.Cuts.{leftByCut}
 
 -- `left` is m with a pattern over its bytes from a on: there each bit is 1 where that of the pattern is, and else that of m; nothing else alters
 pub record Patterned (m : List ℕ) (a : ℕ) (pattern left : List ℕ) : Type 0 where
@@ -21,6 +21,6 @@ pub record Patterned (m : List ℕ) (a : ℕ) (pattern left : List ℕ) : Type 0
 -- in a cut program the pattern is laid over the page as it would be, in a cut erase over the block as it was
 pub record LeavesByPattern : Type 0 where
   pub programs : (m : List ℕ) (p : ℕ) (pg : Page) (s : Held) (finished : Bool) (pattern : List ℕ)
-      → 256 * p + length pattern ≤ length (programmed m p pg) → Patterned (programmed m p pg) (256 * p) pattern (leftBy m (program p pg s finished) pattern)
+      → 256 * p + length pattern ≤ length (programmed m p pg) → Patterned (programmed m p pg) (256 * p) pattern (leftByCut m (program p pg s finished) pattern)
   pub erases : (m : List ℕ) (b : ℕ) (s : Held) (finished : Bool) (pattern : List ℕ)
-      → 4096 * b + length pattern ≤ length m → Patterned m (4096 * b) pattern (leftBy m (erase b s finished) pattern)
+      → 4096 * b + length pattern ≤ length m → Patterned m (4096 * b) pattern (leftByCut m (erase b s finished) pattern)

@@ -22,6 +22,6 @@ unfoldable pub raisedAt : List ℕ → ℕ → List ℕ → List ℕ
 raisedAt m a pattern = putAt m a (raisedBytes (part a (length pattern) m) pattern)
 
 -- the medium m after a cut in a step: of the page as it would be programmed, or of the block as it was
-unfoldable pub leftBy : List ℕ → Step → List ℕ → List ℕ
-leftBy m (program p pg s finished) pattern = raisedAt (programmed m p pg) (256 * p) pattern
-leftBy m (erase b s finished) pattern = raisedAt m (4096 * b) pattern
+unfoldable pub leftByCut : List ℕ → Step → List ℕ → List ℕ
+leftByCut m (program p pg s finished) pattern = raisedAt (programmed m p pg) (256 * p) pattern
+leftByCut m (erase b s finished) pattern = raisedAt m (4096 * b) pattern

@@ -21,7 +21,7 @@ use Rattle.step.specs.Step.{Step}
 use Rattle.valve_log.specs.Reached.{World, world, fresh}
 use Rattle.trace.specs.Trace.{Recorded, dataStart, recordedAt}
 use Rattle.trace.specs.Read.{HasCall}
-use Rattle.player.specs.Cuts.{raisedAt, leftBy}
+use Rattle.player.specs.Cuts.{raisedAt, leftByCut}
 use Rattle.player.specs.Lines.{Line, settingLines}
 use Rattle.player.specs.Run.{nameOf, played}
 use Rattle.player.specs.declared.LastState.{LastState}
@@ -132,8 +132,8 @@ abbrev pub lostBy : State → Reply
 lostBy s = record { number = 0; recovered = false; log = 0; ends = false; last = record { lost = true; state = s } }
 
 -- a recovery that was accepted
-abbrev pub recoveredBy : ℕ → State → Reply
-recoveredBy log s = record { number = 0; recovered = true; log = log; ends = false; last = record { lost = false; state = s } }
+abbrev pub restartedBy : ℕ → State → Reply
+restartedBy log s = record { number = 0; recovered = true; log = log; ends = false; last = record { lost = false; state = s } }
 
 -- what is kept of a recovery: the length of its log, and the state
 pub record Restart : Type 0 where
@@ -162,7 +162,7 @@ struck r m = record { so = r; medium = m }
 -- a cut in the step due, if there is one and the cut names what it touches
 unfoldable pub struckBy : List ℕ → ℕ → List ℕ → Answer Step → Struck
 struckBy m name pattern (refused n) = struck false m
-struckBy m name pattern (gives due) = cond (eqb name (nameOf due)) (struck true (leftBy m due pattern)) (struck false m)
+struckBy m name pattern (gives due) = cond (eqb name (nameOf due)) (struck true (leftByCut m due pattern)) (struck false m)
 
 -- the same by what a step did to a copy of the medium: the number it was refused with or 0, what it touched, and where
 unfoldable pub struckAfter : List ℕ → List ℕ → ℕ → ℕ → ℕ → ℕ → List ℕ → Struck

@@ -2,7 +2,6 @@
 ghost use mathlib.Core.Path.{_≡_};
 ghost use Prim.Native.Nat.{_*_, _≤_, _<_};
 ghost use lib.ListN.{length};
-ghost use lib.ListN.{getD};
 ghost use Rattle.lists.specs.Lists.{valueOr};
 ghost use Rattle.lists.specs.Cells.{listed};
 ghost use Rattle.flash.specs.Medium.{views};
@@ -18,7 +17,7 @@ ghost use Rattle.trace.specs.Trace.{Recorded, codeAt, hasGroup};
 ghost use Rattle.player.specs.Cuts.{raised, raisedAt};
 ghost use Rattle.player.specs.Played.{mostBytes, struck, struckBy, struckAfter};
 ghost use Rattle.player.specs.Played.{worldBy, FewSet, CountsLines, GivesLine, GivesSetting, Plays, callOf, Starts, PlaysAt, Playable};
-ghost use Rattle.player.specs.Played.{answeredBy, refusedBy, lostBy, recoveredBy, Recalls, operationOf, operationAnswer};
+ghost use Rattle.player.specs.Played.{answeredBy, refusedBy, lostBy, restartedBy, Recalls, operationOf, operationAnswer};
 use advance::Stepped;
 use begin::Begun;
 use lists::Cell;
@@ -177,7 +176,7 @@ fn step(m: &mut [u8], b: &mut [u8], last: LastState) -> Reply
 
 // A recovery that was accepted, with the length of its log.
 fn restored(log: usize, s: State) -> Reply
-    ensures { λ r. ⌜ r ≡ recoveredBy log s ⌝ }
+    ensures { λ r. ⌜ r ≡ restartedBy log s ⌝ }
 {
     let last = LastState {
         lost: false,

@@ -22,7 +22,7 @@ use Rattle.valve_log.specs.Reached.{World, world, withState, stepDue, CutOf, Ev
 use Rattle.valve_log.proofs.Events.{Upheld, there, block-there, due-good}
 use Rattle.valve_log.proofs.Due.{Good}
 use Rattle.trace.specs.Trace.{Recorded, patternSize}
-use Rattle.player.specs.Cuts.{leftBy}
+use Rattle.player.specs.Cuts.{leftByCut}
 use Rattle.player.specs.Run.{withHeld, played, playedCut, playedRecovery, recoverIn, nameOf}
 use Rattle.player.proofs.CutsAllowed.{program-cut, erase-cut}
 
@@ -64,7 +64,7 @@ module _ (m : List ℕ) (s : Held) (bs : List ℕ) (h : History) (U : Upheld (wo
 
   -- a cut by a pattern of the size that the form asks is a cut of the list
   pub pattern-cut : (st : Answer Step) → Good (views m) s bs h st → length m ≤ 65536 → (due : Step) (name : ℕ) (pattern : List ℕ) → st ≡ gives due → eqb name (nameOf due) ≡ true
-      → length pattern ≡ patternSize name → CutOf m st (leftBy m due pattern)
+      → length pattern ≡ patternSize name → CutOf m st (leftByCut m due pattern)
   unfolding Good CutOf nameOf patternSize
   pattern-cut st G small (Step.program p pg s′ finished) name pattern e n l =
       let P = rw e at G in
@@ -131,7 +131,7 @@ cut-event m (some s) b h U small name pattern l = go (stepOf (length m) (views m
     go (refused n) e = stays (world m (some s) b)
     go (gives d) e =
         by-cases (eqb name (nameOf d))
-        (λ q. rw q (struck (world m (some s) b) (gives d) (leftBy m d pattern) e (pattern-cut m s b h U (stepOf (length m) (views m) s b) (due-good m s b h U) small d name pattern e q l)))
+        (λ q. rw q (struck (world m (some s) b) (gives d) (leftByCut m d pattern) e (pattern-cut m s b h U (stepOf (length m) (views m) s b) (due-good m s b h U) small d name pattern e q l)))
         (λ q. rw q (stays (world m (some s) b)))
 
 recovery-event : (w : World) (a : Answer Recovery) → recoverIn w ≡ a → AsEvent w (playedRecovery w a .moment)

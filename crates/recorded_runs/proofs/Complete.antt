@@ -22,8 +22,8 @@ use Rattle.valve_log.specs.History.{steppedPage, tell, beganAppend, start as no
 use Rattle.valve_log.specs.Reached.{World, Moment, sameBytes, cutShort, Reached}
 use Rattle.valve_log.proofs.Point3.{reached-upheld}
 use Rattle.trace.specs.Trace.{callCount, codeAt, numberAt, hasGroup, withoutNumber, numberOk, patternSize, dataSize, dataBelow, dataStart, formatsOnce, recoversNext, callOk, hasLists, wellFormed}
-use Rattle.trace.specs.Trace.{Recorded, numbersFrom, recordedAs, recordedAt, recorded}
-use Rattle.player.specs.Cuts.{raised, raisedBytes, raisedAt, leftBy}
+use Rattle.trace.specs.Trace.{Recorded, numbersAt, recordedAs, recordedAt, recorded}
+use Rattle.player.specs.Cuts.{raised, raisedBytes, raisedAt, leftByCut}
 use Rattle.player.specs.Run.{nameOf, played, playedCut, linesFrom}
 use Rattle.recorded_runs.specs.Example.{completeCutTrace, CompleteCutExample}
 use Rattle.recorded_runs.proofs.Along.{InForm}
@@ -80,7 +80,7 @@ unfolding wellFormed hasLists every callCount codeAt numberAt hasGroup withoutNu
 formed = refl
 
 calls : recorded completeCutTrace ≡ Recorded.format 4 ∷ replicate 5 Recorded.step ++ (appends ∷ cutCall ∷ Recorded.recover ∷ [])
-unfolding recorded table recordedAt recordedAs numbersFrom callCount codeAt numberAt hasGroup patternSize dataSize dataBelow dataStart le packed bytesOf completeCutTrace
+unfolding recorded table recordedAt recordedAs numbersAt callCount codeAt numberAt hasGroup patternSize dataSize dataBelow dataStart le packed bytesOf completeCutTrace
 calls = refl
 
 blocks : numberAt completeCutTrace 0 ≡ 4
@@ -111,7 +111,7 @@ module _ (w : World) (F : FormattedWorld 4 w) where
       (program-guarded (w .medium) 1 page there (omega (arith, few)) guarded .bytes)
 
   cut-told : played (appending w F) cutCall .moment .told ≡ steppedPage
-  unfolding played playedCut nameOf cutShort leftBy
+  unfolding played playedCut nameOf cutShort leftByCut
   cut-told = rw (due-there w F, left-complete, same-itself (programmed (w .medium) 1 page)) refl
 
   cut-quiet : played (appending w F) cutCall .lines ≡ []

@@ -16,7 +16,7 @@ use Rattle.valve_log.specs.Reached.{World, world, withState, stepDue, CutOf, ha
 use Rattle.valve_log.proofs.Events.{Upheld, due-good}
 use Rattle.valve_log.proofs.Point3.{reached-upheld}
 use Rattle.trace.specs.Trace.{Recorded, patternSize}
-use Rattle.player.specs.Cuts.{leftBy}
+use Rattle.player.specs.Cuts.{leftByCut}
 use Rattle.player.specs.Lines.{recoveryLines}
 use Rattle.player.specs.Run.{withHeld, recoverIn, nameOf, played, playedCut, playedRecovery}
 use Rattle.recorded_runs.specs.Events.{EndsRun, CallsAsEvents, RecoversAsEvent, CutAsEvent, PlayedAsEvents}
@@ -58,7 +58,7 @@ module _ (w : World) (name : ℕ) (pattern : List ℕ) where
       record { moment = rw (e, q) refl; lines = rw (e, q) refl; ends = rw (e, q) refl }
 
 cut-allowed : (m : List ℕ) (s : Option Held) (b : List ℕ) (h : History) → Upheld (world m s b) h → length m ≤ 65536 → (name : ℕ) (pattern : List ℕ)
-    → length pattern ≡ patternSize name → (due : Step) → stepDue (world m s b) ≡ gives due → name ≡ nameOf due → CutOf m (stepDue (world m s b)) (leftBy m due pattern)
+    → length pattern ≡ patternSize name → (due : Step) → stepDue (world m s b) ≡ gives due → name ≡ nameOf due → CutOf m (stepDue (world m s b)) (leftByCut m due pattern)
 unfolding stepDue withState
 cut-allowed m none b h U small name pattern l due e q = given-refused due 9 (sym e)
 cut-allowed m (some s) b h U small name pattern l due e q =

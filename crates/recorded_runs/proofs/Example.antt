@@ -12,7 +12,7 @@ use Rattle.lists.specs.Needs.{gives, under}
 use Rattle.lists.specs.Cells.{cell, Entry}
 use Rattle.codec.specs.Codec.{le, packed, bytesOf}
 use Rattle.trace.specs.Trace.{callCount, codeAt, numberAt, hasGroup, withoutNumber, numberOk, patternSize, dataSize, dataBelow, dataStart, formatsOnce, recoversNext, callOk, hasLists, wellFormed}
-use Rattle.trace.specs.Trace.{Recorded, numbersFrom, recordedAs, recordedAt, recorded}
+use Rattle.trace.specs.Trace.{Recorded, numbersAt, recordedAs, recordedAt, recorded}
 use Rattle.page.specs.Pages.{View, clean, whole, isClean, pagesFor, changesOf}
 use Rattle.page.proofs.Buffer.{gathered-blank}
 use Rattle.flash.specs.Medium.{seen, whollyClean}
@@ -24,7 +24,7 @@ use Rattle.step.specs.Step.{Step, isLast, groupPage, appended, programming, app
 use Rattle.valve_log.specs.History.{History, start as noHistory, beganAppend, steppedPage, tell, counted}
 use Rattle.valve_log.specs.Reached.{World, world, fresh, withState, stepDue, Moment, moment, called, stepped, Reached}
 use Rattle.player.specs.Lines.{Line, refusalLines, summary, settingLines}
-use Rattle.player.specs.Run.{withHeld, appendIn, recoverIn, played, playedRecovery, startOf, linesFrom, linesOf}
+use Rattle.player.specs.Run.{withHeld, appendIn, recoverIn, played, playedRecovery, startWorld, linesFrom, linesOf}
 use Rattle.valve_log.proofs.Formats.{basePage, started}
 use Rattle.recorded_runs.specs.Example.{exampleTrace, Example}
 use Rattle.recorded_runs.proofs.Prints.{recovery-lines}
@@ -41,7 +41,7 @@ abbrev step : Recorded
 step = Recorded.step
 
 calls : recorded exampleTrace ≡ Recorded.format 4 ∷ step ∷ step ∷ step ∷ step ∷ step ∷ Recorded.append (1 ∷ 2 ∷ []) (5 ∷ 7 ∷ []) ∷ step ∷ Recorded.recover ∷ []
-unfolding recorded table recordedAt recordedAs numbersFrom callCount codeAt numberAt hasGroup patternSize dataSize dataBelow dataStart le packed bytesOf exampleTrace
+unfolding recorded table recordedAt recordedAs numbersAt callCount codeAt numberAt hasGroup patternSize dataSize dataBelow dataStart le packed bytesOf exampleTrace
 calls = refl
 
 -- ---- the pages after formatting, and the calls then
@@ -155,7 +155,7 @@ module _ (w : World) (F : FormattedWorld 4 w) where
 -- a trace of the form that starts with a format of 4 blocks and five steps: its lines are those of the calls then
 pub lines-after : (t : List ℕ) (cs : List Recorded) (ls : List Line) → wellFormed t ≡ true → numberAt t 0 ≡ 4
     → recorded t ≡ Recorded.format 4 ∷ replicate 5 Recorded.step ++ cs → ((w : World) → FormattedWorld 4 w → linesFrom w cs ≡ ls) → linesOf t ≡ ls
-unfolding linesOf startOf
+unfolding linesOf startWorld
 lines-after t cs ls f n r k =
     let low : 4 ≤ 4 = omega arith in let high : 4 ≤ 16 = omega arith in
     rw (f, n, r) (format-lines 4 low high cs ∙ k _ (formatted 4 low high))

@@ -18,7 +18,7 @@ use Rattle.player.specs.declared.LastState.{LastState}
 use Rattle.player.specs.declared.Reply.{Reply}
 use Rattle.player.specs.declared.PrintedLine.{PrintedLine}
 use Rattle.player.specs.Lines.{Line}
-use Rattle.player.specs.Run.{startOf, linesFrom, linesOf}
+use Rattle.player.specs.Run.{startWorld, linesFrom, linesOf}
 use Rattle.player.specs.Played.{heldBy, worldBy, linesBy, lineOf, FewSet, Plays, Starts, mostBytes, PlaysAt}
 use Rattle.recorded_runs.specs.Recorded.{PrintsHistory}
 use Rattle.recorded_runs.specs.OfCode.{noLine, HandedLines, linesPrinted, CallPlayed, PlaysOn, Reruns, PrintsOfCode}
@@ -86,8 +86,8 @@ module _ (t : List ℕ) (m : List ℕ) (l : LastState) (m′ b′ : List ℕ) (l
   medium : m′ ≡ blank (4096 * numberAt t 0)
   medium = S .medium ∙ ap blank long
 
-  first-world : worldBy m′ l b′ ≡ startOf t
-  unfolding worldBy heldBy startOf
+  first-world : worldBy m′ l b′ ≡ startWorld t
+  unfolding worldBy heldBy startWorld
   first-world = rw (S .stateless, medium, S .buffer) refl
 
   small : wellFormed t ≡ true → length m′ ≤ mostBytes

@@ -14,7 +14,7 @@ use Rattle.valve_log.specs.Reached.{World, world, fresh, happen, Reached}
 use Rattle.valve_log.specs.Finished.{stepsOn, Finished, FormattingFinishes}
 use Rattle.valve_log.proofs.Finished.{formatting-finishes}
 use Rattle.trace.specs.Trace.{Recorded, numberAt}
-use Rattle.player.specs.Run.{begunFormat, played, startOf}
+use Rattle.player.specs.Run.{begunFormat, played, startWorld}
 use Rattle.recorded_runs.specs.Recorded.{Phase, afterFormatting, phaseAfter}
 use Rattle.recorded_runs.specs.Reaches.{worldOver, phaseOver, RunsReach, FormatsInRun}
 use Rattle.recorded_runs.proofs.Along.{InForm}
@@ -40,7 +40,7 @@ module _ (t : List ℕ) (B : BeginsWithFormat t) where
   abbrev calls : List Recorded
   calls = Recorded.format (numberAt t 0) ∷ B .rest
 
-  from-start : (n : ℕ) (h : History) → phaseOver Phase.formatting (startOf t) (take n calls) ≡ Phase.since h → Reached (worldOver (startOf t) (take n calls)) h
+  from-start : (n : ℕ) (h : History) → phaseOver Phase.formatting (startWorld t) (take n calls) ≡ Phase.since h → Reached (worldOver (startWorld t) (take n calls)) h
   unfolding phaseOver worldOver phaseAfter afterFormatting
   from-start zero h q = absurd (let z : _≡_ {A = ℕ} 0 1 = cc in omega arith)
   from-start (suc n) h q = reached-there _ _ h (over-stands Phase.formatting _ (B .rest) n (first-stands t B) (B .later)) q

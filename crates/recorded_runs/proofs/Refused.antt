@@ -15,7 +15,7 @@ use Rattle.step.specs.Step.{stepOf}
 use Rattle.valve_log.specs.Reached.{World, fresh, withState, stepDue}
 use Rattle.valve_log.proofs.Formats.{started}
 use Rattle.trace.specs.Trace.{callCount, codeAt, numberAt, hasGroup, withoutNumber, numberOk, patternSize, dataSize, dataBelow, dataStart, formatsOnce, recoversNext, callOk, hasLists, wellFormed}
-use Rattle.trace.specs.Trace.{Recorded, numbersFrom, recordedAs, recordedAt, recorded}
+use Rattle.trace.specs.Trace.{Recorded, numbersAt, recordedAs, recordedAt, recorded}
 use Rattle.player.specs.Lines.{Line}
 use Rattle.player.specs.Run.{played, playedCut, linesFrom, linesOf}
 use Rattle.recorded_runs.specs.Example.{exampleTrace, noCallTrace, longerTrace, cutLastTrace, nothingDueTrace, RefusedExamples}
@@ -53,7 +53,7 @@ abbrev pub cutCall : Recorded
 cutCall = Recorded.cut 1 (replicate 256 0)
 
 calls : recorded nothingDueTrace ≡ Recorded.format 4 ∷ replicate 5 Recorded.step ++ (cutCall ∷ Recorded.recover ∷ [])
-unfolding recorded table recordedAt recordedAs numbersFrom callCount codeAt numberAt hasGroup patternSize dataSize dataBelow dataStart le packed bytesOf nothingDueTrace
+unfolding recorded table recordedAt recordedAs numbersAt callCount codeAt numberAt hasGroup patternSize dataSize dataBelow dataStart le packed bytesOf nothingDueTrace
 calls = refl
 
 blocks : numberAt nothingDueTrace 0 ≡ 4

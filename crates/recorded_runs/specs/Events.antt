@@ -17,7 +17,7 @@ use Rattle.step.specs.Step.{Step, stepOf}
 use Rattle.valve_log.specs.History.{History}
 use Rattle.valve_log.specs.Reached.{World, world, stepDue, CutOf, Event, still, happen, Reached}
 use Rattle.trace.specs.Trace.{Recorded, patternSize}
-use Rattle.player.specs.Cuts.{leftBy}
+use Rattle.player.specs.Cuts.{leftByCut}
 use Rattle.player.specs.Lines.{Line, refusalLines, summary}
 use Rattle.player.specs.Run.{recoverIn, nameOf, played}
 
@@ -61,8 +61,8 @@ pub record RecoveriesAsEvents (w : World) : Type 0 where
 
 -- a cut that names what the step due touches: the list allows what its pattern leaves, it is that event, and nothing is printed
 pub record CutAsEvent (w : World) (name : ℕ) (pattern : List ℕ) (due : Step) : Type 0 where
-  pub allowed : CutOf (w .medium) (stepDue w) (leftBy (w .medium) due pattern)
-  pub moment : played w (Recorded.cut name pattern) .moment ≡ happen w (Event.cutInside (leftBy (w .medium) due pattern) allowed)
+  pub allowed : CutOf (w .medium) (stepDue w) (leftByCut (w .medium) due pattern)
+  pub moment : played w (Recorded.cut name pattern) .moment ≡ happen w (Event.cutInside (leftByCut (w .medium) due pattern) allowed)
   pub lines : played w (Recorded.cut name pattern) .lines ≡ []
   pub ends : played w (Recorded.cut name pattern) .ends ≡ false
 

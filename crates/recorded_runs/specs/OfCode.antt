@@ -14,7 +14,7 @@ use Rattle.player.specs.declared.LastState.{LastState}
 use Rattle.player.specs.declared.Reply.{Reply}
 use Rattle.player.specs.declared.PrintedLine.{PrintedLine}
 use Rattle.player.specs.Lines.{Line}
-use Rattle.player.specs.Run.{startOf, linesOf}
+use Rattle.player.specs.Run.{startWorld, linesOf}
 use Rattle.player.specs.Played.{lineOf, FewSet, Starts, Playable, PlaysAt, CountsLines, GivesLine}
 use Rattle.recorded_runs.specs.Recorded.{Phase, toldFrom}
 
@@ -64,7 +64,7 @@ pub data Reruns (t : List ℕ) : List Line → Type 0 where
 -- What such a program prints are the lines of the trace, and where the trace has the form they are what the history defines.
 pub record PrintsLines (t : List ℕ) (lines : List Line) : Type 0 where
   pub all : lines ≡ linesOf t
-  pub told : wellFormed t ≡ true → lines ≡ toldFrom Phase.formatting (startOf t) (recorded t)
+  pub told : wellFormed t ≡ true → lines ≡ toldFrom Phase.formatting (startWorld t) (recorded t)
 
 unfoldable pub PrintsOfCode : Type 0
 PrintsOfCode = (t : List ℕ) → Bytes t → (lines : List Line) → Reruns t lines → PrintsLines t lines

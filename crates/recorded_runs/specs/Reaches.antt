@@ -11,7 +11,7 @@ use Rattle.codec.specs.Codec.{blank}
 use Rattle.valve_log.specs.History.{History, start as noHistory}
 use Rattle.valve_log.specs.Reached.{World, world, fresh, Reached}
 use Rattle.trace.specs.Trace.{Recorded, wellFormed, recorded}
-use Rattle.player.specs.Run.{played, startOf}
+use Rattle.player.specs.Run.{played, startWorld}
 use Rattle.recorded_runs.specs.Recorded.{Phase, phaseAfter}
 
 -- the world that calls lead to, one after the other; it goes on over all the calls it is given, also past one that ends the run, which leaves the world as
@@ -29,7 +29,7 @@ phaseOver p w (c ∷ cs) = phaseOver (phaseAfter p w c) (played w c .moment .aft
 unfoldable pub RunsReach : Type 0
 RunsReach =
     (t : List ℕ) → Bytes t → wellFormed t ≡ true → (n : ℕ) (h : History)
-    → phaseOver Phase.formatting (startOf t) (take n (recorded t)) ≡ Phase.since h → Reached (worldOver (startOf t) (take n (recorded t))) h
+    → phaseOver Phase.formatting (startWorld t) (take n (recorded t)) ≡ Phase.since h → Reached (worldOver (startWorld t) (take n (recorded t))) h
 
 -- a format of n blocks and n + 1 steps: the history starts there
 unfoldable pub FormatsInRun : Type 0

@@ -9,7 +9,7 @@ use Rattle.valve_log.specs.History.{History, start as noHistory, tell}
 use Rattle.valve_log.specs.Reached.{World, stepDue, accepted, finishes}
 use Rattle.trace.specs.Trace.{Recorded, wellFormed, recorded}
 use Rattle.player.specs.Lines.{Line, summary}
-use Rattle.player.specs.Run.{recoverIn, played, startOf, linesOf}
+use Rattle.player.specs.Run.{recoverIn, played, startWorld, linesOf}
 
 -- where a run stands: in formatting; past it, with the plain history since; or past a cut or an accepted recovery inside formatting, after which
 -- nothing is promised. Both are named as in the valve log's statement. In a run an accepted recovery inside formatting comes only after such a cut, since
@@ -61,4 +61,4 @@ toldFrom p w (c ∷ cs) = toldLines p w c ++ cond (played w c .ends) [] (toldFro
 
 -- What a trace prints is what the history defines. So after formatting no recovery is refused: a refusal is one line, a summary two or more.
 unfoldable pub PrintsHistory : Type 0
-PrintsHistory = (t : List ℕ) → Bytes t → wellFormed t ≡ true → linesOf t ≡ toldFrom Phase.formatting (startOf t) (recorded t)
+PrintsHistory = (t : List ℕ) → Bytes t → wellFormed t ≡ true → linesOf t ≡ toldFrom Phase.formatting (startWorld t) (recorded t)

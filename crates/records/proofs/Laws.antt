@@ -1,7 +1,7 @@
 -- What the walk over records notes, step by step.
-use mathlib.Core.Path.{_≡_, refl, sym, ap, _∙_, subst}
+use mathlib.Core.Path.{_≡_, refl, sym, ap, _∙_}
 use mathlib.Core.Bool.{Bool, true, false, not, cond, _&&_}
-use mathlib.Core.List.{List, [], _∷_}
+use mathlib.Core.List.{List, _∷_}
 use Prim.Native.Nat.{ℕ, suc, _+_, _≤_, _<_}
 use native.Mathlib.Omega.{arith}
 use lib.ListN.{length, getD, drop, drop-of-length-le, set}
@@ -10,7 +10,7 @@ use lib.Dec.{leb, ltb}
 use borrow.Author.Tests.{lt-leb, le-leb, not-true, not-false}
 use Rattle.records.specs.declared.Record.{Record}
 use Rattle.records.specs.declared.Notes.{Notes}
-use Rattle.records.specs.Records.{stillRises, notedPast, notedAt, noted, notedAll, unnoted}
+use Rattle.records.specs.Records.{stillRises, notedPast, notedAt, noted, notedAll}
 
 pub not-rising : (b : Bool) (least v : ℕ) → not b ≡ true → false ≡ stillRises b least v
 unfolding stillRises

@@ -10,7 +10,7 @@ use lib.ListN.{length, take}
 use lib.Seq.{length-take-le}
 use borrow.Author.Tests.{not-false}
 use Rattle.page.specs.Buffer.{bufferBytes}
-use Rattle.trace.specs.Trace.{callCount, codeAt, numberAt, dataSize, dataStart, wellFormed}
+use Rattle.trace.specs.Trace.{callCount, codeAt, numberAt, dataSize, wellFormed}
 use Rattle.trace.specs.Read.{Listed, HasCall}
 use Rattle.trace.proofs.Laws.{Summed, sum-start, start-next}
 use Rattle.trace.proofs.Form.{formed-lists, formed-call, blocks-high}

@@ -17,7 +17,7 @@ use Rattle.lists.proofs.Laws.{and-l, and-r, every-at, below-at, below-tail, len
 use Rattle.codec.specs.Codec.{le, part}
 use Rattle.codec.proofs.Put.{bytes-part}
 use Rattle.trace.specs.Trace.{callCount, codeAt, numberAt, hasGroup, numberOk, patternSize, dataSize, dataStart, formatsOnce, recoversNext, callOk, wellFormed}
-use Rattle.trace.specs.Trace.{Recorded, numbersFrom, recordedAs, recordedAt, recorded}
+use Rattle.trace.specs.Trace.{Recorded, numbersAt, recordedAs, recordedAt}
 use Rattle.trace.specs.Read.{Listed, HasCall}
 use Rattle.trace.proofs.Laws.{lists-are, start-next, start-rises}
 
@@ -100,12 +100,12 @@ le-below (suc w) (x ∷ xs) b h =
     omega (arith, le-below w xs (below-tail b) (omega arith))
 
 module _ (w n k : ℕ) (t : List ℕ) where
-  pub length-numbers : length (numbersFrom w n k t) ≡ n
-  unfolding numbersFrom
+  pub length-numbers : length (numbersAt w n k t) ≡ n
+  unfolding numbersAt
   length-numbers = length-table (λ j. le (part (k + w * j) w t)) 0 n
 
-  pub numbers-below : Bytes t → 0 < 256 ^ w → Below (256 ^ w) (numbersFrom w n k t)
-  unfolding numbersFrom
+  pub numbers-below : Bytes t → 0 < 256 ^ w → Below (256 ^ w) (numbersAt w n k t)
+  unfolding numbersAt
   numbers-below b p = record { each = λ i. go i (decLt i n) }
     where
       go : (i : ℕ) → Dec (i < n) → getD (table n (λ j. le (part (k + w * j) w t))) i 0 < 256 ^ w
@@ -130,8 +130,8 @@ take-table d m (suc n) f = go (decLe (suc n) m) (take-table d m n f)
         rw e (take-append-le m (table n f) (f n ∷ []) (omega (arith, length-table f d n)) ∙ r)
 
 -- the first 97 numbers of a group, as the code reads them
-pub numbers-taken : (w n k : ℕ) (t xs : List ℕ) (m : ℕ) → m ≡ min n 97 → take m xs ≡ numbersFrom w m k t → take m xs ≡ take 97 (numbersFrom w n k t)
-unfolding numbersFrom
+pub numbers-taken : (w n k : ℕ) (t xs : List ℕ) (m : ℕ) → m ≡ min n 97 → take m xs ≡ numbersAt w m k t → take m xs ≡ take 97 (numbersAt w n k t)
+unfolding numbersAt
 numbers-taken w n k t xs m e h = h ∙ ap (λ (j : ℕ). table j (λ i. le (part (k + w * i) w t))) e ∙ sym (take-table 0 97 n (λ i. le (part (k + w * i) w t)))
 
 -- ---- the bytes of a call with a group, and of a cut

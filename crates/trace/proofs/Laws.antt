@@ -17,7 +17,7 @@ use Rattle.lists.specs.Lists.{every, allBelow, table}
 use Rattle.lists.proofs.Laws.{Held, held-next, held-stop, held-end, by-cases, every-at}
 use Rattle.codec.specs.Codec.{le, part}
 use Rattle.trace.specs.Trace.{callCount, codeAt, numberAt, hasGroup, withoutNumber, numberOk, patternSize, dataSize, dataBelow, dataStart}
-use Rattle.trace.specs.Trace.{formatsOnce, recoversNext, callOk, hasLists, wellFormed, numbersFrom}
+use Rattle.trace.specs.Trace.{formatsOnce, recoversNext, callOk, hasLists, wellFormed, numbersAt}
 use Rattle.trace.specs.Read.{Listed, HasCall}
 
 -- the last of some tests
@@ -319,15 +319,15 @@ pub record NumbersRead (w n k : ℕ) (t xs : List ℕ) (i : ℕ) : Type 0 where
   pub top : i ≤ n
   pub few : n ≤ 97
   pub size : length xs ≡ 97
-  pub so : take i xs ≡ numbersFrom w i k t
+  pub so : take i xs ≡ numbersAt w i k t
 
 module _ (w n k : ℕ) (t xs : List ℕ) where
   pub numbers-start : n ≤ 97 → length xs ≡ 97 → NumbersRead w n k t xs 0
-  unfolding numbersFrom table
+  unfolding numbersAt table
   numbers-start h l = record { top = omega arith; few = h; size = l; so = refl }
 
   pub numbers-next : (i x : ℕ) → i < n → x ≡ le (part (k + w * i) w t) → NumbersRead w n k t xs i → NumbersRead w n k t (set xs i x) (i + 1)
-  unfolding numbersFrom table
+  unfolding numbersAt table
   numbers-next i x h e r = record {
     top = omega arith;
     few = r .few;
@@ -335,5 +335,5 @@ module _ (w n k : ℕ) (t xs : List ℕ) where
     so = rw (add-one i, take-suc-set xs i x (omega (arith, r .few, r .size)), r .so, e);
   }
 
-  pub numbers-end : (i : ℕ) → n ≤ i → NumbersRead w n k t xs i → take n xs ≡ numbersFrom w n k t
+  pub numbers-end : (i : ℕ) → n ≤ i → NumbersRead w n k t xs i → take n xs ≡ numbersAt w n k t
   numbers-end i h r = let e : i ≡ n = omega (arith, r .top) in rw e at (r .so)

@@ -100,15 +100,15 @@ pub data Recorded : Type 0 where
   flush : Recorded
 
 -- n numbers of w bytes each, from byte k on
-unfoldable pub numbersFrom : ℕ → ℕ → ℕ → List ℕ → List ℕ
-numbersFrom w n k t = table n (λ j. le (part (k + w * j) w t))
+unfoldable pub numbersAt : ℕ → ℕ → ℕ → List ℕ → List ℕ
+numbersAt w n k t = table n (λ j. le (part (k + w * j) w t))
 
 -- the keys and the words of a group of n entries whose bytes start at k
 abbrev pub keysFrom : ℕ → ℕ → List ℕ → List ℕ
-keysFrom n k t = numbersFrom 2 n k t
+keysFrom n k t = numbersAt 2 n k t
 
 abbrev pub wordsFrom : ℕ → ℕ → List ℕ → List ℕ
-wordsFrom n k t = numbersFrom 8 n (k + 2 * n) t
+wordsFrom n k t = numbersAt 8 n (k + 2 * n) t
 
 -- the call with this code and number whose bytes start at k; a code that is none of the first eight stands for 9, as in a trace of the form it is
 unfoldable pub recordedAs : ℕ → ℕ → ℕ → List ℕ → Recorded

@@ -6,7 +6,7 @@ ghost use lib.ListN.{length, take};
 ghost use Rattle.lists.specs.Lists.{allBelow};
 ghost use Rattle.codec.specs.Codec.{part};
 ghost use Rattle.trace.specs.Trace.{callCount, codeAt, numberAt, hasGroup, withoutNumber, numberOk, patternSize, dataSize, dataStart};
-ghost use Rattle.trace.specs.Trace.{formatsOnce, recoversNext, callOk, hasLists, wellFormed, numbersFrom};
+ghost use Rattle.trace.specs.Trace.{formatsOnce, recoversNext, callOk, hasLists, wellFormed, numbersAt};
 ghost use Rattle.trace.specs.Read.{Listed, HasCall};
 
 // Codes of calls. Here formatting, with the number of blocks.
@@ -290,7 +290,7 @@ pub fn entries(n: u64) -> usize
 // The keys of n entries, from byte k on.
 pub fn keys(t: &[u8], k: usize, n: usize) -> [u16; 97]
     requires { ⌜ (n ≤ 97) × (k + 2 * n ≤ length (now t)) ⌝ }
-    ensures { λ r. ⌜ (length r ≡ 97) × (take n r ≡ numbersFrom 2 n k (now (t .entry))) ⌝ }
+    ensures { λ r. ⌜ (length r ≡ 97) × (take n r ≡ numbersAt 2 n k (now (t .entry))) ⌝ }
 {
     let mut all = [0u16; 97];
     let mut i: usize = 0;
@@ -304,7 +304,7 @@ pub fn keys(t: &[u8], k: usize, n: usize) -> [u16; 97]
 // The words of n entries, from byte k on.
 pub fn words(t: &[u8], k: usize, n: usize) -> [u64; 97]
     requires { ⌜ (n ≤ 97) × (k + 8 * n ≤ length (now t)) ⌝ }
-    ensures { λ r. ⌜ (length r ≡ 97) × (take n r ≡ numbersFrom 8 n k (now (t .entry))) ⌝ }
+    ensures { λ r. ⌜ (length r ≡ 97) × (take n r ≡ numbersAt 8 n k (now (t .entry))) ⌝ }
 {
     let mut all = [0u64; 97];
     let mut i: usize = 0;

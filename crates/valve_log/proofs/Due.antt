@@ -170,7 +170,7 @@ committed-calm : (s : Held) (k p : ℕ) → notFlush (committed s k p .pending) 
 unfolding committed notFlush
 committed-calm s k p = by-cases (isLast k (length (s .index))) (λ e. rw e) (λ e. rw e)
 
-counted-collect : (h : History) (u : UnderWay) → u ≡ collecting → counted h u ≡ h
+pub counted-collect : (h : History) (u : UnderWay) → u ≡ collecting → counted h u ≡ h
 unfolding counted
 counted-collect h u e = rw e
 

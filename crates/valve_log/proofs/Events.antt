@@ -74,7 +74,7 @@ few-views m e = let s = sized (length m) e in omega (arith, length-views m, s .h
 
 -- ---- what conditions 24 and 10 say of the buffered groups
 
-no-groups : (gs : List (List Entry)) → eqb (length gs) 0 ≡ true → gs ≡ []
+pub no-groups : (gs : List (List Entry)) → eqb (length gs) 0 ≡ true → gs ≡ []
 no-groups [] e = refl
 no-groups (g ∷ gs) e = absurd (let z : length (g ∷ gs) ≡ 0 = eqb-true (length (g ∷ gs)) 0 e in omega arith)
 

@@ -154,7 +154,7 @@ module _ (n : ℕ) (size : sizeOk n ≡ true) where
 abbrev first : List ℕ → World
 first m = world m (some (formatting (length m / 4096))) fresh
 
-begun-there : (n : ℕ) → sizeOk n ≡ true → formatOf n ≡ gives (formatting (n / 4096))
+pub begun-there : (n : ℕ) → sizeOk n ≡ true → formatOf n ≡ gives (formatting (n / 4096))
 unfolding formatOf under
 begun-there n size = rw size
 

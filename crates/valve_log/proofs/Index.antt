@@ -1,7 +1,7 @@
 -- The index and the settings: counting set valves depends on the keys alone, setting and removing keep an index tidy and its words in step
 -- with the settings, and moving a node leaves the settings as they are.
 use mathlib.Core.Path.{_≡_, refl, ap, _∙_}
-use mathlib.Core.Bool.{Bool, true, _&&_}
+use mathlib.Core.Bool.{Bool, true}
 use mathlib.Core.Option.{some}
 use mathlib.Core.List.{List, [], _∷_, _++_}
 use Prim.Native.Nat.{ℕ, suc, _-_, _*_, _≤_}
@@ -14,7 +14,7 @@ use Rattle.lists.specs.Lists.{all, keep, isSome, valueOr}
 use Rattle.lists.specs.Cells.{cell, keysOf}
 use Rattle.lists.proofs.Laws.{by-cases, and-l, and-r, all-head, all-tail, all-cons, opposite}
 use Rattle.page.specs.Pages.{View}
-use Rattle.index.specs.Index.{put, remove, risingFrom, rising, assign, assignAll, mostValves, within}
+use Rattle.index.specs.Index.{put, remove, rising, assign, assignAll, mostValves, within}
 use Rattle.index.proofs.Rising.{assign-rising}
 use Rattle.index.proofs.Members.{In, first, later, in-none, assign-same, members-within}
 use Rattle.nodes.specs.Nodes.{wordAt, sound, words, inBlock, insertByAddress, byAddress, live}

@@ -2,7 +2,7 @@
 use mathlib.Core.Path.{_≡_, refl, sym, ap, _∙_}
 use mathlib.Core.Bool.{Bool, true, false, cond}
 use mathlib.Core.Option.{Option, none, some}
-use mathlib.Core.List.{List, [], _∷_, _++_, append-assoc, append-nil}
+use mathlib.Core.List.{List, [], _∷_, _++_}
 use Prim.Native.Nat.{ℕ, zero, suc, _+_, _≤_}
 use native.Mathlib.Omega.{arith}
 use lib.ListN.{length, length-append}
@@ -15,6 +15,7 @@ use Rattle.page.specs.Pages.{View, changesOf}
 use Rattle.page.specs.Rules.{entryOk}
 use Rattle.page.specs.Buffer.{gathered, holding}
 use Rattle.page.proofs.Buffer.{filled, Fitting, gathered-holding}
+use Rattle.page.proofs.More.{changes-snoc}
 use Rattle.index.specs.Index.{within, entryAllowed, entriesAllowed}
 use Rattle.state.specs.State.{Pending, idle, append, commit, collect, format, flush, unnamed, Held, fit, flushOk, groupsFit, bufferFit, fitWith, bufferedIn, isIdle}
 use Rattle.valve_log.specs.History.{UnderWay, appending, committing, flushing, History, history, counted}
@@ -131,11 +132,6 @@ kept-commit h (suc zero) = refl
 kept-commit h (suc (suc n)) = refl
 
 -- ---- a group more
-
-changes-snoc : (gs : List (List Entry)) (es : List Entry) → changesOf (gs ++ (es ∷ [])) ≡ changesOf gs ++ es
-unfolding changesOf
-changes-snoc [] es = append-nil es
-changes-snoc (g ∷ gs) es = ap (λ (t : List Entry). g ++ t) (changes-snoc gs es) ∙ sym (append-assoc g (changesOf gs) es)
 
 all-join : (f : Entry → Bool) (a b : List Entry) → all f a ≡ true → all f b ≡ true → all f (a ++ b) ≡ true
 all-join f [] b x y = y

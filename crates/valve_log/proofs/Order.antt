@@ -9,7 +9,7 @@ use lib.ListN.{length}
 use lib.Dec.{leb, ltb, eqb}
 use borrow.Author.Tests.{ltb-true, leb-true, leb-false, eqb-true, not-true, lt-ltb, le-ltb, le-leb, lt-leb, eq-eqb, ne-eqb}
 use Rattle.lists.specs.Lists.{all, every, keep, isSome}
-use Rattle.lists.proofs.Laws.{by-cases, and-l, and-r, and-both, true-false, all-head, all-tail, all-cons, all-weaken, keep-append, keep-all, all-keep, opposite, keep-none}
+use Rattle.lists.proofs.Laws.{by-cases, and-l, and-r, and-both, all-head, all-tail, all-cons, all-weaken, keep-append, keep-all, all-keep, opposite, keep-none}
 use Rattle.page.specs.Pages.{begins, ends}
 use Rattle.recovery.specs.Recovery.{Placed, serialOf, kindOf, otherSerial, distinct, insert, sort, lastOf, goesOn, startsGroup, baseOf, reaches, from, consecutive, Walk, enter, walk}
 
@@ -275,15 +275,6 @@ starts-snoc k (y ∷ ys) x h = rw (goes-on-snoc k (suc (serialOf y)) ys x h)
 or-more : (a b c : Bool) → (b ≡ true → c ≡ true) → (a || b) ≡ true → (a || c) ≡ true
 or-more true b c f h = refl
 or-more false b c f h = f h
-
-pub goes-on-append : (k s : ℕ) (xs ys : List Placed) → goesOn k s xs ≡ true → goesOn k s (xs ++ ys) ≡ true
-unfolding goesOn
-goes-on-append k s [] ys h = true-false h refl
-goes-on-append k s (x ∷ xs) ys h =
-    let t : List Bool = eqb (kindOf x) k ∷ eqb (serialOf x) s ∷ not (begins (x .page)) ∷ [] in
-    let r : Bool = goesOn k (suc s) xs in
-    and-both (and-l (every t) (ends (x .page) || r) h)
-    (or-more (ends (x .page)) r (goesOn k (suc s) (xs ++ ys)) (goes-on-append k (suc s) xs ys) (and-r (every t) (ends (x .page) || r) h))
 
 -- a group begins where it starts
 pub starts-begins : (k : ℕ) (x : Placed) (xs : List Placed) → opposite isBegin x ≡ true → startsGroup k (x ∷ xs) ≡ false

@@ -1,15 +1,15 @@
 -- The whole log's effect on the settings at the last counted commit.
 use mathlib.Core.Path.{_≡_, refl, sym, ap, _∙_, subst}
 use mathlib.Core.Bool.{true, cond}
-use mathlib.Core.List.{List, [], _∷_, _++_, append-nil, append-assoc}
-use Prim.Native.Nat.{ℕ, zero, suc, _≤_, _<_}
+use mathlib.Core.List.{List, [], _∷_, _++_, append-nil}
+use Prim.Native.Nat.{ℕ, zero, suc}
 use native.Mathlib.Omega.{arith}
-use lib.Dec.{ltb, eqb}
-use borrow.Author.Tests.{ltb-true, ltb-false, eqb-true, eqb-false}
-use Rattle.lists.specs.declared.Cell.{Cell}
+use lib.Dec.{eqb}
+use borrow.Author.Tests.{eqb-true, eqb-false}
 use Rattle.lists.specs.Cells.{Entry, Setting}
 use Rattle.lists.proofs.Laws.{by-cases}
 use Rattle.page.specs.Pages.{changesOf}
+use Rattle.page.proofs.More.{changes-append}
 use Rattle.flash.specs.Medium.{views}
 use Rattle.index.specs.Index.{valveOf, lookup, rising, risingFrom, assign, assignAll}
 use Rattle.index.proofs.Rising.{assign-rising}
@@ -17,11 +17,12 @@ use Rattle.effects.specs.Effects.{touch, join, effect, ascendsFrom, ascends}
 use Rattle.effects.proofs.Laws.{by-order, touch-before, touch-same, touch-after, ascends-head, ascends-tail, ascends-cons, ascends-lower, nothing-ascends, touch-ascends, effect-changes}
 use Rattle.wanted_group.proofs.Lookup.{valve, assign-it, assign-else, same-list}
 use Rattle.valve_log.specs.History.{UnderWay, nothing, appending, committing, collecting, flushing, History, start as noHistory, Told, unchanged}
-use Rattle.valve_log.specs.History.{beganAppend, beganCommit, beganCollect, putIn, beganFlush, steppedPage, steppedBlock, recovery, assignGroups, counted, tell}
-use Rattle.valve_log.specs.Reached.{World, happen, Reached, Words, Shows, Point3}
-use Rattle.valve_log.specs.SinceCommit.{commitEndsNext, settingsAtCommit, lastCommitted, Explains, EffectExplains}
+use Rattle.valve_log.specs.History.{beganAppend, beganCommit, beganCollect, putIn, beganFlush, steppedPage, steppedBlock, recovery, counted, tell}
+use Rattle.valve_log.specs.Reached.{World, happen, Reached, Words, Point3}
+use Rattle.valve_log.specs.SinceCommit.{commitEndsNext, settingsAtCommit, lastCommitted, EffectExplains}
 use Rattle.valve_log.proofs.Index.{assign-append}
 use Rattle.valve_log.proofs.Point3.{point3}
+use Rattle.valve_log.proofs.Steps.{assign-groups}
 
 -- ---- two entries on settings
 
@@ -106,16 +107,6 @@ pub record Since (h : History) (s : List Setting) : Type 0 where
   pub rises-now : rising (h .settings) ≡ true
   pub so : assignAll s (changesOf (h .log)) ≡ h .settings
 
-changes-append : (a b : List (List Entry)) → changesOf (a ++ b) ≡ changesOf a ++ changesOf b
-unfolding changesOf
-changes-append [] b = refl
-changes-append (g ∷ a) b = ap (_++_ g) (changes-append a b) ∙ sym (append-assoc g (changesOf a) (changesOf b))
-
-groups-assigned : (s : List Setting) (gs : List (List Entry)) → assignGroups s gs ≡ assignAll s (changesOf gs)
-unfolding assignGroups changesOf assignAll
-groups-assigned s [] = refl
-groups-assigned s (g ∷ gs) = groups-assigned (assignAll s g) gs ∙ sym (assign-append s g (changesOf gs))
-
 -- groups that join the log
 joined-since : (h : History) (s : List Setting) (gs : List (List Entry)) → Since h s → assignAll s (changesOf (h .log ++ gs)) ≡ assignAll (h .settings) (changesOf gs)
 joined-since h s gs k =
@@ -148,8 +139,8 @@ counted-since h s (flushing gs zero) k = k
 counted-since h s (flushing gs (suc zero)) k =
     record {
       rises = k .rises;
-      rises-now = ap rising (groups-assigned (h .settings) gs) ∙ all-rising (h .settings) (changesOf gs) (k .rises-now);
-      so = joined-since h s gs k ∙ sym (groups-assigned (h .settings) gs);
+      rises-now = ap rising (assign-groups (h .settings) gs) ∙ all-rising (h .settings) (changesOf gs) (k .rises-now);
+      so = joined-since h s gs k ∙ sym (assign-groups (h .settings) gs);
     }
 counted-since h s (flushing gs (suc (suc n))) k = record { rises = k .rises; rises-now = k .rises-now; so = k .so }
 

@@ -1,6 +1,6 @@
 -- On a reached medium, with the state last handed back, no call answers 1, 6, 7 or 16.
 use mathlib.Core.Path.{_≡_, refl, sym, ap, _∙_}
-use mathlib.Core.Bool.{Bool, true, false}
+use mathlib.Core.Bool.{Bool, true}
 use mathlib.Core.Option.{Option, none, some}
 use mathlib.Core.List.{List, [], _∷_, _++_}
 use Prim.Native.Nat.{ℕ, zero, suc, _+_, _*_, _/_, _%_, _≤_, _<_}
@@ -19,7 +19,7 @@ use Rattle.flash.proofs.Laws.{length-views}
 use Rattle.flash.proofs.Steps.{program-views}
 use Rattle.index.specs.Index.{within, entriesAllowed, lookup}
 use Rattle.blocks.specs.Blocks.{sizeOk, available}
-use Rattle.nodes.specs.Nodes.{wordAt, sound, words, live, pickBelow}
+use Rattle.nodes.specs.Nodes.{wordAt, sound, words, live}
 use Rattle.state.specs.State.{Pending, append, commit, collect, flush, Held, groupOk, basePages, pendingFit, fit, fitWith, bufferedIn, stateNeeds}
 use Rattle.recovery.specs.Recovery.{Placed, wholes, sort, lastOf, noPage, Recovery}
 use Rattle.recovery.specs.Recovery

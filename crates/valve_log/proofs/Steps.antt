@@ -1,6 +1,6 @@
 -- One page more: the coupling after a page of an append, of a commit and of a collection.
 use mathlib.Core.Path.{_≡_, refl, sym, ap, subst, _∙_}
-use mathlib.Core.Bool.{Bool, true, false, _&&_, _||_}
+use mathlib.Core.Bool.{Bool, true, false, _&&_}
 use mathlib.Core.Option.{Option, some}
 use mathlib.Core.List.{List, [], _∷_, _++_, append-assoc, append-nil}
 use Prim.Native.Nat.{ℕ, suc, _+_, _-_, _*_, _^_, _≤_, _<_}
@@ -12,7 +12,7 @@ use Rattle.lists.specs.declared.Cell.{Cell}
 use Rattle.lists.specs.Lists.{all, every, valueOr}
 use Rattle.lists.specs.Needs.{under}
 use Rattle.lists.specs.Cells.{cell, Entry, Place, Setting, keysOf}
-use Rattle.lists.proofs.Laws.{every-at, all-head}
+use Rattle.lists.proofs.Laws.{every-at, all-head, or-right}
 use Rattle.page.specs.Pages.{Page, View, whole, page, begins, ends, isClean, pagesFor, changesOf}
 use Rattle.page.specs.Rules.{serialOk, lawful}
 use Rattle.page.specs.Buffer.{groupsIn, groupsPage}
@@ -81,10 +81,6 @@ unfolding groupPage
 page-serial kind es k s = refl
 
 -- ---- a base laid out whole
-
-or-right : (a b : Bool) → b ≡ true → (a || b) ≡ true
-or-right true b h = refl
-or-right false b h = h
 
 -- from page k on its pages go on to the end
 goes-laid : (es : List Entry) (k s q : ℕ) (qs : List ℕ) → 1 ≤ k → isLast (k + length qs) (length es) ≡ true → goesOn 2 s (lay 2 es k s (q ∷ qs)) ≡ true
@@ -530,9 +526,6 @@ module _ (v : List View) (s : Held) (h : History) {ch : List Placed} {gs : List 
 
     pub fl-lawful : lawful fp ≡ true
     fl-lawful = lawful-groups (s .head .serial) small fitting fl-many (serial-ok (s .head .serial) starts room)
-
-    fl-kind : fp .kind ≡ 4
-    fl-kind = unfold groupsPage in refl
 
     fl-entries : entriesOf (placed p fp ∷ []) ≡ changesOf small
     unfolding entriesOf groupsPage

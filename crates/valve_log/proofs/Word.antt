@@ -8,12 +8,12 @@ use native.Mathlib.Omega.{arith}
 use lib.Dec.{leb, ltb, eqb}
 use lib.ListN.{length, getD, length-append}
 use lib.Seq.{getD-append-seam}
-use borrow.Author.Tests.{ltb-true, leb-true, eqb-true, eqb-false, eq-eqb, ne-eqb, lt-ltb, le-ltb, le-leb}
+use borrow.Author.Tests.{ltb-true, leb-true, eqb-true, eqb-false, ne-eqb}
 use Rattle.lists.specs.declared.Cell.{Cell}
 use Rattle.lists.specs.Lists.{table, isSome, valueOr, Bytes}
 use Rattle.lists.specs.Needs.{under, checked, answerOr, refusalOf}
 use Rattle.lists.specs.Cells.{cell, Entry, Place}
-use Rattle.lists.proofs.Laws.{by-cases, and-l, and-r, true-false, below-tail, get-table, length-table}
+use Rattle.lists.proofs.Laws.{by-cases, and-r, true-false, get-table, length-table, some-same, none-some}
 use Rattle.codec.specs.Codec.{le, bytesOf, part}
 use Rattle.codec.proofs.Put.{get-part, length-part, part-same, bytes-part}
 use Rattle.codec.proofs.Numbers.{bytes-le}
@@ -23,8 +23,10 @@ use Rattle.page.proofs.Berger.{whole-view}
 use Rattle.page.proofs.More.{Stored, stored-holding}
 use Rattle.flash.specs.Medium.{pageAt, views, seen}
 use Rattle.flash.proofs.Laws.{seen-views}
-use Rattle.index.specs.Index.{put, remove, lookup, risingFrom, rising, assign, assignAll}
+use Rattle.flash.proofs.Steps.{page-is}
+use Rattle.index.specs.Index.{remove, lookup, risingFrom, rising, assign, assignAll}
 use Rattle.index.proofs.Rising.{assign-rising}
+use Rattle.index.proofs.Assigned.{lookup-put, lookup-put-other, lookup-below}
 use Rattle.nodes.specs.Nodes.{setsValves, entryIn, nodeIn, wordFor, wordAt, words}
 use Rattle.nodes.proofs.Alive.{rising-words}
 use Rattle.state.specs.State.{Held, fitWith}
@@ -42,33 +44,6 @@ use Rattle.valve_log.proofs.Steady.{StateReady, reached-ready, has-word
 
 -- ---- a valve in a list that rises
 
-lookup-same : (k a : ℕ) (l : List Cell) → lookup k (put k a l) ≡ some a
-unfolding lookup put
-lookup-same k a [] = rw (le-ltb k k (omega arith), eq-eqb k k refl)
-lookup-same k a (x ∷ l) =
-    by-cases (ltb k (x .key)) (λ e. rw (e, le-ltb k k (omega arith), eq-eqb k k refl))
-    (λ e. by-cases (eqb k (x .key)) (λ f. rw (e, f, le-ltb k k (omega arith), eq-eqb k k refl)) (λ f. rw (e, f, e, f) (lookup-same k a l)))
-
-lookup-other : (v k a : ℕ) (l : List Cell) → (v ≡ k → ⊥) → lookup v (put k a l) ≡ lookup v l
-unfolding lookup put
-lookup-other v k a [] n = rw (ne-eqb v k n) (by-cases (ltb v k) (λ e. rw e) (λ e. rw e))
-lookup-other v k a (x ∷ l) n =
-    by-cases (ltb k (x .key))
-    (λ e. rw (e, ne-eqb v k n) (by-cases (ltb v k)
-    (λ f. let p : k < x .key = ltb-true k (x .key) e in let q : v < k = ltb-true v k f in let z : v < x .key = omega arith in rw (f, lt-ltb v (x .key) z))
-    (λ f. rw f)))
-    (λ e. by-cases (eqb k (x .key))
-    (λ f. let z : k ≡ x .key = eqb-true k (x .key) f in let m : v ≡ x .key → ⊥ = λ q. n (omega arith) in rw (e, f, ne-eqb v k n, ne-eqb v (x .key) m, ← z))
-    (λ f. rw (e, f) (by-cases (ltb v (x .key)) (λ g. rw g) (λ g. by-cases (eqb v (x .key)) (λ j. rw (g, j)) (λ j. rw (g, j) (lookup-other v k a l n))))))
-
-lookup-above : (v m : ℕ) (l : List Cell) → v < m → risingFrom m l ≡ true → lookup v l ≡ none
-unfolding lookup risingFrom
-lookup-above v m [] h r = refl
-lookup-above v m (x ∷ l) h r =
-    let p : m ≤ x .key = leb-true m (x .key) (and-l (leb m (x .key)) (risingFrom (suc (x .key)) l) r) in
-    let q : v < x .key = omega arith in
-    rw (lt-ltb v (x .key) q)
-
 removed-same : (k m : ℕ) (l : List Cell) → risingFrom m l ≡ true → lookup k (remove k l) ≡ none
 unfolding lookup remove
 removed-same k m [] r = refl
@@ -76,7 +51,7 @@ removed-same k m (x ∷ l) r =
     let t : risingFrom (suc (x .key)) l ≡ true = unfold risingFrom in and-r (leb m (x .key)) (risingFrom (suc (x .key)) l) r in
     by-cases (ltb k (x .key)) (λ e. rw (e, e))
     (λ e. by-cases (eqb k (x .key))
-    (λ f. let z : k ≡ x .key = eqb-true k (x .key) f in rw (e, f) (lookup-above k (suc (x .key)) l (omega arith) t))
+    (λ f. let z : k ≡ x .key = eqb-true k (x .key) f in rw (e, f) (lookup-below k (suc (x .key)) l (omega arith) t))
     (λ f. rw (e, f, e, f) (removed-same k (suc (x .key)) l t)))
 
 removed-other : (v k m : ℕ) (l : List Cell) → (v ≡ k → ⊥) → risingFrom m l ≡ true → lookup v (remove k l) ≡ lookup v l
@@ -87,7 +62,7 @@ removed-other v k m (x ∷ l) n r =
     by-cases (ltb k (x .key)) (λ e. rw e)
     (λ e. by-cases (eqb k (x .key))
     (λ f. let z : k ≡ x .key = eqb-true k (x .key) f in let o : v ≡ x .key → ⊥ = λ q. n (omega arith) in
-    rw (e, f, ne-eqb v (x .key) o) (by-cases (ltb v (x .key)) (λ g. let q : v < x .key = ltb-true v (x .key) g in rw g (lookup-above v (suc (x .key)) l (omega arith) t)) (λ g. rw g)))
+    rw (e, f, ne-eqb v (x .key) o) (by-cases (ltb v (x .key)) (λ g. let q : v < x .key = ltb-true v (x .key) g in rw g (lookup-below v (suc (x .key)) l (omega arith) t)) (λ g. rw g)))
     (λ f. rw (e, f) (by-cases (ltb v (x .key)) (λ g. rw g) (λ g. by-cases (eqb v (x .key)) (λ j. rw (g, j)) (λ j. rw (g, j) (removed-other v k (suc (x .key)) l n t))))))
 
 -- one entry
@@ -99,8 +74,8 @@ unfolding assign names rising
 lookup-assign v l e r =
     by-cases (ltb (e .key) 32768)
     (λ s. rw s (by-cases (eqb (e .key) v)
-    (λ q. let z : e .key ≡ v = eqb-true (e .key) v q in rw (q, z) (lookup-same v (e .val) l))
-    (λ q. let z : e .key ≡ v → ⊥ = eqb-false (e .key) v q in rw q (lookup-other v (e .key) (e .val) l (λ y. z (sym y))))))
+    (λ q. let z : e .key ≡ v = eqb-true (e .key) v q in rw (q, z) (lookup-put v (e .val) l))
+    (λ q. let z : e .key ≡ v → ⊥ = eqb-false (e .key) v q in rw q (lookup-put-other v (e .key) (e .val) l (λ y. z (sym y))))))
     (λ s. rw s (by-cases (eqb (e .key - 32768) v)
     (λ q. let z : e .key - 32768 ≡ v = eqb-true (e .key - 32768) v q in rw (q, z) (removed-same v 0 l r))
     (λ q. let z : e .key - 32768 ≡ v → ⊥ = eqb-false (e .key - 32768) v q in rw q (removed-other v (e .key - 32768) 0 l (λ y. z (sym y)) r))))
@@ -141,10 +116,6 @@ part-part s a n k c h l =
     part-same k (a + k) c 0 (part a n s) s (omega (arith, length-part a n s l)) (omega arith)
     (λ i x. let z : a + (k + i) ≡ a + k + i = omega arith in get-part a n (k + i) 0 s (omega arith) ∙ ap (λ (j : ℕ). getD s j 0) z)
 
-page-is : (m : List ℕ) (p : ℕ) → 256 * p + 256 ≤ length m → pageAt m p ≡ part (256 * p) 256 m
-unfolding pageAt
-page-is m p h = rw (le-leb (256 * p + 256) (length m) h)
-
 page-in : (m : List ℕ) (p : ℕ) → wholeBytes (pageAt m p) ≡ true → 256 * p + 256 ≤ length m
 page-in m p w =
     by-cases (leb (256 * p + 256) (length m)) (λ e. leb-true (256 * p + 256) (length m) e)
@@ -157,12 +128,6 @@ entry-word s i e =
     let h : i < length (table (min 24 (used s)) (entryAt s)) = ltb-true i (length (table (min 24 (used s)) (entryAt s))) e in
     let k : i < min 24 (used s) = omega arith in
     (ap (λ (x : Entry). x .val) (get-table (entryAt s) (cell 0 0) (min 24 (used s)) i k) ∙ (unfold entryAt in refl), omega arith)
-
-none-some : {P : Type 0} {w : ℕ} → none ≡ some w → P
-none-some e = let z : _≡_ {A = ℕ} 0 1 = cc in absurd (omega arith)
-
-some-same : {a b : ℕ} → some a ≡ some b → a ≡ b
-some-same e = cc
 
 node-bytes : (m : List ℕ) (p i key w : ℕ) (y : View) → Bytes m → viewOf (pageAt m p) ≡ y → wordFor key (nodeIn y i) ≡ some w → part (256 * p + (64 + 8 * i)) 8 m ≡ bytesOf 8 w
 unfolding nodeIn wordFor entryIn

@@ -11,7 +11,6 @@ use Rattle.lists.specs.Needs.{refused, gives}
 use Rattle.blocks.specs.Blocks.{sizeOk}
 use Rattle.state.specs.State.{Held}
 use Rattle.calls.specs.Calls.{formatOf}
-use Rattle.step.specs.Step.{Step}
 use Rattle.valve_log.specs.History.{start as noHistory}
 use Rattle.valve_log.specs.Reached.{World, world, fresh, lentAnew, stepDue, Event, happen, finishes, Reached}
 

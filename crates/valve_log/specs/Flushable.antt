@@ -9,7 +9,7 @@ use Rattle.lists.specs.Needs.{refused, gives}
 use Rattle.flash.specs.Medium.{views}
 use Rattle.state.specs.State.{flush, Held, isIdle}
 use Rattle.calls.specs.Calls.{starting, holdsNone, flushOf}
-use Rattle.step.specs.Step.{Step, stepOf}
+use Rattle.step.specs.Step.{stepOf}
 use Rattle.valve_log.specs.History.{History}
 use Rattle.valve_log.specs.Reached.{World, Reached}
 

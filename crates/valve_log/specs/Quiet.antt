@@ -5,7 +5,6 @@ use mathlib.Core.List.{List}
 use Prim.Native.Nat.{ℕ}
 use Rattle.lists.specs.Needs.{refused}
 use Rattle.state.specs.State.{Held, collect}
-use Rattle.step.specs.Step.{Step}
 use Rattle.valve_log.specs.History.{History, Told, unchanged, tell}
 use Rattle.valve_log.specs.Reached.{World, Event, stepDue, CutOf, still, called, filled, stepped, recovered, happen, Reached, Shows}
 

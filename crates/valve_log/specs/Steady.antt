@@ -14,7 +14,7 @@ use Rattle.state.specs.State.{Held}
 use Rattle.recovery.specs.Recovery.{recover as recoverOf}
 use Rattle.readings.specs.Readings.{openingOf, wordRefusal, pickOf, surveyOf, availableOf, readLog, readSettings}
 use Rattle.calls.specs.Calls.{appendOf, commitOf, collectOf, bufferOf, flushOf, formatOf}
-use Rattle.step.specs.Step.{Step, stepOf}
+use Rattle.step.specs.Step.{stepOf}
 use Rattle.valve_log.specs.History.{History}
 use Rattle.valve_log.specs.Reached.{World, Reached}
 

@@ -2,28 +2,26 @@
 use mathlib.Core.Path.{_≡_, refl, sym, ap, _∙_}
 use mathlib.Core.Bool.{Bool, true, false, cond, _&&_}
 use mathlib.Core.Option.{Option}
-use mathlib.Core.List.{List, [], _∷_}
-use Prim.Native.Nat.{ℕ, _≤_, _<_}
+use mathlib.Core.List.{List}
+use Prim.Native.Nat.{ℕ, _≤_}
 use native.Mathlib.Omega.{arith}
 use lib.ListN.{length}
-use lib.Dec.{leb, ltb}
-use borrow.Author.Tests.{le-leb, lt-leb, leb-true, leb-false}
-use Rattle.lists.specs.declared.Cell.{Cell}
+use lib.Dec.{leb}
+use borrow.Author.Tests.{leb-true, leb-false}
 use Rattle.lists.specs.Lists.{all, every}
 use Rattle.lists.specs.Needs.{Answer, refused, under}
 use Rattle.lists.specs.Cells.{Entry}
-use Rattle.lists.proofs.Laws.{by-cases, checked-join}
+use Rattle.lists.proofs.Laws.{by-cases}
 use Rattle.page.specs.Pages.{View}
 use Rattle.index.specs.Index.{rising}
-use Rattle.nodes.specs.Nodes.{sound}
 use Rattle.state.specs.State.{Held, stateNeeds}
 use Rattle.records.specs.declared.Record.{Record}
 use Rattle.records.specs.declared.Notes.{Notes}
 use Rattle.records.specs.Records.{wantedSettings, unnoted, notedAll}
 use Rattle.records.proofs.Meaning.{inRange, notes-rise, notes-over, notes-count, notes-cells, length-settings}
 use Rattle.wanted_group.specs.Group.{isValve}
-use Rattle.wanted.specs.Wanted.{present, valvesOk, fewRecords, wantedFor, wantedOf}
-use Rattle.wanted.specs.Noted.{notedSettings, Orderly, recordNeeds, afterRecords, wantedBy}
+use Rattle.wanted.specs.Wanted.{valvesOk, fewRecords, wantedOf}
+use Rattle.wanted.specs.Noted.{notedSettings, Orderly, afterRecords, wantedBy}
 
 and-last : (a b : Bool) → (a && b) ≡ (a && (b && true))
 and-last true true = refl

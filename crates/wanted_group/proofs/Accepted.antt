@@ -6,17 +6,18 @@ use mathlib.Core.List.{List, [], _∷_, _++_}
 use Prim.Native.Nat.{ℕ, suc, _+_, _-_, _≤_}
 use native.Mathlib.Omega.{arith}
 use lib.ListN.{length}
-use lib.Dec.{leb, ltb, eqb}
+use lib.Dec.{leb}
 use borrow.Author.Tests.{le-leb, le-ltb}
 use Rattle.lists.specs.declared.Cell.{Cell}
 use Rattle.lists.specs.Lists.{all, isSome}
-use Rattle.lists.proofs.Laws.{by-cases, and-l, and-r, and-both, all-head, all-tail, true-false}
-use Rattle.index.specs.Index.{lookup, risingFrom, rising, assign, assignAll, remove, within}
+use Rattle.lists.proofs.Laws.{by-cases, and-l, and-r, and-both, all-head, all-tail, true-false, by-eq}
+use Rattle.index.specs.Index.{lookup, risingFrom, rising, assign, assignAll, within}
 use Rattle.index.proofs.Rising.{rising-tail, assign-rising}
 use Rattle.index.proofs.Assigned.{lookup-below}
+use Rattle.index.proofs.Pairs.{remove-few}
 use Rattle.wanted_group.specs.Group.{isValve, removalsFor, settingsFor, groupFor}
 use Rattle.wanted_group.proofs.Lookup.{valve, three, lookup-none, lookup-here, lookup-past, lookup-before, lookup-other, assign-else}
-use Rattle.wanted_group.proofs.Leads.{by-eq, gone, told-removals, lookup-all, all-rising, removal, setting-valve, isWanted, stands, removals-kept, removals-gone, settings-same, settings-new}
+use Rattle.wanted_group.proofs.Leads.{gone, told-removals, lookup-all, all-rising, removal, setting-valve, isWanted, stands, removals-kept, removals-gone, settings-same, settings-new}
 
 -- ---- a rising list whose valves are all valves of another is not longer
 
@@ -80,18 +81,10 @@ within-append l (e ∷ es) fs p q =
     let rest = and-r (leb (length (assign l e)) 192) (within (assign l e) es) p in
     and-both first (within-append (assign l e) es fs rest q)
 
-remove-length : (k : ℕ) (l : List Cell) → length (remove k l) ≤ length l
-unfolding remove
-remove-length k [] = omega arith
-remove-length k (x ∷ l) =
-    by-cases (ltb k (x .key))
-    (λ b. rw b (omega arith))
-    (λ b. by-cases (eqb k (x .key)) (λ c. rw (b, c) (omega arith)) (λ c. rw (b, c) (let z = remove-length k l in omega (arith, z))))
-
 removal-shorter : (l : List Cell) (x : Cell) → length (assign l (removal x)) ≤ length l
 unfolding assign
 removal-shorter l x =
-    let h : 32768 ≤ x .key + 32768 = omega arith in rw (le-ltb (x .key + 32768) 32768 h) (remove-length (x .key + 32768 - 32768) l)
+    let h : 32768 ≤ x .key + 32768 = omega arith in rw (le-ltb (x .key + 32768) 32768 h) (remove-few (x .key + 32768 - 32768) l)
 
 within-removals : (s w l : List Cell) → length l ≤ 192 → within l (removalsFor s w) ≡ true
 unfolding removalsFor

@@ -1,24 +1,18 @@
 -- Of how many numbers below a bound a test holds, where the test changes.
 use mathlib.Core.Path.{_≡_, refl, ap, _∙_}
-use mathlib.Core.Bool.{Bool, true, false}
+use mathlib.Core.Bool.{Bool, false}
 use Prim.Native.Nat.{ℕ, zero, suc, _+_, _≤_, _<_}
 use native.Mathlib.Omega.{arith}
 use lib.Dec.{ltb}
 use borrow.Author.Tests.{ltb-true, ltb-false}
 use Rattle.lists.specs.Lists.{oneIf, countBelow}
-use Rattle.lists.proofs.Laws.{by-cases}
-use Rattle.wanted_group.proofs.Leads.{by-eq}
+use Rattle.lists.proofs.Laws.{by-cases, by-eq, one-most}
 
 count-same : (n : ℕ) (f g : ℕ → Bool) → ((k : ℕ) → k < n → f k ≡ g k) → countBelow n f ≡ countBelow n g
 unfolding countBelow
 count-same zero f g e = refl
 count-same (suc n) f g e =
     ap (λ (t : ℕ). t + oneIf (f n)) (count-same n f g (λ k h. e k (omega (arith, h)))) ∙ ap (λ (t : Bool). countBelow n g + oneIf t) (e n (omega arith))
-
-one-most : (b : Bool) → oneIf b ≤ 1
-unfolding oneIf
-one-most true = omega arith
-one-most false = omega arith
 
 -- a change at one number changes the count by one at most
 pub count-change : (n : ℕ) (f g : ℕ → Bool) (j : ℕ) → ((k : ℕ) → (k ≡ j → ⊥) → f k ≡ g k) → countBelow n f ≤ countBelow n g + 1

@@ -9,7 +9,7 @@ use lib.Dec.{leb, ltb, eqb}
 use borrow.Author.Tests.{le-leb, lt-leb, le-ltb, eq-eqb, ne-eqb, not-true}
 use Rattle.lists.specs.declared.Cell.{Cell}
 use Rattle.lists.specs.Lists.{all}
-use Rattle.lists.proofs.Laws.{by-cases, true-false, all-head, all-tail, all-cons}
+use Rattle.lists.proofs.Laws.{by-cases, true-false, all-head, all-tail, all-cons, by-eq}
 use Rattle.index.specs.Index.{lookup, risingFrom, rising, assignAll, entryAllowed, entriesAllowed}
 use Rattle.lists.specs.declared.Found.{Found}
 use Rattle.lists.specs.declared.Found.the-variants.{At, Missing}
@@ -17,7 +17,7 @@ use Rattle.lists.specs.Found.{foundOf}
 use Rattle.index.proofs.Rising.{rising-head, rising-tail, rising-cons}
 use Rattle.wanted_group.specs.Group.{isValve, same, removalsFor, settingsFor, groupFor}
 use Rattle.wanted_group.proofs.Lookup.{valve, word, lookup-none, lookup-here, lookup-before}
-use Rattle.wanted_group.proofs.Leads.{by-eq, told, lookup-all, removal, isWanted, stands, removals-kept, removals-gone, settings-same, settings-new}
+use Rattle.wanted_group.proofs.Leads.{told, lookup-all, removal, isWanted, stands, removals-kept, removals-gone, settings-same, settings-new}
 
 -- ---- entries one by one
 

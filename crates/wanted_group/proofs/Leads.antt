@@ -5,20 +5,17 @@ use mathlib.Core.Option.{Option, none, some}
 use mathlib.Core.List.{List, [], _∷_, _++_}
 use Prim.Native.Nat.{ℕ, suc, _+_, _-_, _≤_}
 use native.Mathlib.Omega.{arith}
-use lib.Dec.{ltb, eqb}
-use borrow.Author.Tests.{le-ltb, eq-eqb, ne-eqb, eqb-true, eqb-false}
+use lib.Dec.{eqb}
+use borrow.Author.Tests.{le-ltb, eq-eqb, ne-eqb}
 use Rattle.lists.specs.declared.Cell.{Cell}
 use Rattle.lists.specs.Lists.{all, isSome}
 use Rattle.lists.specs.Cells.{cell}
-use Rattle.lists.proofs.Laws.{by-cases, all-head, all-tail}
+use Rattle.lists.proofs.Laws.{by-cases, all-head, all-tail, by-eq}
 use Rattle.index.specs.Index.{lookup, risingFrom, rising, assign, assignAll}
 use Rattle.index.proofs.Rising.{rising-tail, assign-rising}
 use Rattle.index.proofs.Assigned.{lookup-below}
 use Rattle.wanted_group.specs.Group.{isValve, same, removalsFor, settingsFor, groupFor}
 use Rattle.wanted_group.proofs.Lookup.{valve, word, lookup-none, lookup-here, lookup-other, assign-it, assign-else, same-list}
-
-pub by-eq : {P : Type 0} (a b : ℕ) → (a ≡ b → P) → ((a ≡ b → ⊥) → P) → P
-by-eq a b p q = by-cases (eqb a b) (λ e. p (eqb-true a b e)) (λ e. q (eqb-false a b e))
 
 -- ---- what entries, in order, say of a valve that had o
 

@@ -1,7 +1,7 @@
 -- The loops of the code: the entries put out so far, and those still to come.
 use mathlib.Core.Path.{_≡_, refl, sym, ap, _∙_}
 use mathlib.Core.Bool.{Bool, true, false}
-use mathlib.Core.Option.{Option, none, some}
+use mathlib.Core.Option.{Option, some}
 use mathlib.Core.List.{List, [], _∷_, _++_, append-nil}
 use Prim.Native.Nat.{ℕ, _+_, _≤_, _<_}
 use native.Mathlib.Omega.{arith}
@@ -21,9 +21,8 @@ use Rattle.index.specs.Search.{Kept}
 use Rattle.lists.specs.Found.{foundOf}
 use Rattle.index.proofs.Pairs.{pairs-snoc}
 use Rattle.wanted_group.specs.Group.{isValve, same, removalsFor, settingsFor, groupFor}
-use Rattle.wanted_group.specs.declared.Limited.{Limited}
 use Rattle.wanted_group.specs.Limited.{LimitedGroup, limited, limitedBy}
-use Rattle.wanted_group.proofs.Leads.{isWanted, stands, removals-kept, removals-gone, settings-same, settings-new}
+use Rattle.wanted_group.proofs.Leads.{removals-kept, removals-gone, settings-same, settings-new}
 
 -- ---- a word found under a valve
 
