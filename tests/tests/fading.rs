@@ -7,7 +7,7 @@
 
 mod common;
 
-use common::{lists, valves};
+use common::{lists, valves, variable, Seed};
 use journal_tests::fading::{
     fade, faded_pages, shown, verdict, Pages, Shown, Verdict, Watched, FADES,
 };
@@ -28,22 +28,6 @@ fn count(counts: &mut Counts, name: impl Into<String>) {
 
 /// Fades, where no variable asks for another number.
 const MANY: usize = 40_000;
-
-/// A number that the environment gives.
-fn variable(name: &str) -> Option<u64> {
-    std::env::var(name).ok().map(|text| text.parse().expect(name))
-}
-
-/// Prints a seed where what was made of it fails.
-struct Seed(u64);
-
-impl Drop for Seed {
-    fn drop(&mut self) {
-        if std::thread::panicking() {
-            eprintln!("JOURNAL_SEED={}", self.0);
-        }
-    }
-}
 
 /// One list on so many blocks; after one in so many of its events the medium fades.
 struct List {

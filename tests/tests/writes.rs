@@ -13,7 +13,7 @@ mod common;
 
 use common::{
     blank, circumstances, expected_read_out, happening, lists, pending_name, read_out, refused,
-    touched, valves, Given, EMPTY,
+    touched, valves, variable, Given, Seed, EMPTY,
 };
 use journal_tests::calls::{Calls, Proved, Second, Tight};
 use journal_tests::dispatcher::next_operation;
@@ -232,22 +232,6 @@ fn formatting_erases_upward_and_drops_what_is_pending() {
 const EVENTS: u64 = 100_000;
 /// Events of one list.
 const LIFE: u64 = 1000;
-
-/// A number that the environment gives.
-fn variable(name: &str) -> Option<u64> {
-    std::env::var(name).ok().map(|text| text.parse().expect(name))
-}
-
-/// Prints a seed where what was made of it fails.
-struct Seed(u64);
-
-impl Drop for Seed {
-    fn drop(&mut self) {
-        if std::thread::panicking() {
-            eprintln!("JOURNAL_SEED={}", self.0);
-        }
-    }
-}
 
 /// How often each thing happened.
 type Counts = BTreeMap<String, usize>;

@@ -26,6 +26,22 @@ pub fn printed(program: &str, medium: &[u8]) -> String {
     String::from_utf8(output.stdout).expect("text")
 }
 
+/// A number that the environment gives.
+pub fn variable(name: &str) -> Option<u64> {
+    std::env::var(name).ok().map(|text| text.parse().expect(name))
+}
+
+/// Prints a seed where what was made of it fails.
+pub struct Seed(pub u64);
+
+impl Drop for Seed {
+    fn drop(&mut self) {
+        if std::thread::panicking() {
+            eprintln!("JOURNAL_SEED={}", self.0);
+        }
+    }
+}
+
 pub fn refused<T>(number: u8) -> Result<T, Refused> {
     Err(Refused(number))
 }
