@@ -1,12 +1,13 @@
 //! The time of the proved library over that of the second implementation, and for
 //! the calls of every day over that of the tight one, on media of 16 and of 256
-//! blocks. All make the same calls in turn in one process, each call with all its
-//! checks; the least of many times counts.
+//! blocks; the tight one behind the library's interface, the state by value, and
+//! changing the state in place. All make the same calls in turn in one process,
+//! each call with all its checks; the least of many times counts.
 //!
 //!     cargo bench --offline --manifest-path tests/Cargo.toml
 //!     cargo bench --offline --manifest-path tests/Cargo.toml --bench journal -- everyday
 
-use journal_tests::calls::{Calls, Proved, Second, Tight, EMPTY};
+use journal_tests::calls::{Calls, Proved, Second, Tight, TightByValue, EMPTY};
 use journal_tests::dispatcher::{next_operation, Operation};
 use journal_tests::effects::{self, Effect};
 use journal_tests::grown::shuffle_blocks;
@@ -285,25 +286,50 @@ fn time<C: Calls>(journal: &Journal, run: impl Fn(&mut Lent<C>)) -> Duration {
     start.elapsed()
 }
 
-/// Runs both in turn for some seconds, at least 5 times, and prints the least
-/// time of each and their ratio. The other is the second implementation or the
-/// tight one.
-fn compare<C: Calls>(
+/// The least time of each, run in turn for some seconds, at least 5 times.
+fn least<const N: usize>(runs: [&dyn Fn() -> Duration; N]) -> [f64; N] {
+    let (mut least, start, mut turns) = ([Duration::MAX; N], Instant::now(), 0);
+    while turns < 5 || start.elapsed() < Duration::from_secs(2) {
+        for (least, run) in least.iter_mut().zip(runs) {
+            *least = run().min(*least);
+        }
+        turns += 1;
+    }
+    least.map(micros)
+}
+
+/// Prints the least time of the proved library and of the second implementation,
+/// and their ratio.
+fn compare(
     name: &str,
     journal: &Journal,
     proved: impl Fn(&mut Lent<Proved>),
-    (of, other): (&str, impl Fn(&mut Lent<C>)),
+    second: impl Fn(&mut Lent<Second>),
 ) {
-    let (mut least_proved, mut least_other) = (Duration::MAX, Duration::MAX);
-    let (start, mut runs) = (Instant::now(), 0);
-    while runs < 5 || start.elapsed() < Duration::from_secs(2) {
-        least_proved = least_proved.min(time(journal, &proved));
-        least_other = least_other.min(time(journal, &other));
-        runs += 1;
-    }
-    let ratio = least_proved.as_secs_f64() / least_other.as_secs_f64();
-    let (proved, other) = (micros(least_proved), micros(least_other));
-    println!("{name}: proved {proved:.1} µs, {of} {other:.1} µs, ratio {ratio:.2}");
+    let (proved, second) = (|| time(journal, &proved), || time(journal, &second));
+    let [proved, second] = least([&proved, &second]);
+    let ratio = proved / second;
+    println!("{name}: proved {proved:.1} µs, second {second:.1} µs, ratio {ratio:.2}");
+}
+
+/// Prints the least time of the proved library and of the tight one, by value and in
+/// place, and the ratio to each.
+fn compare_tight(
+    name: &str,
+    journal: &Journal,
+    proved: impl Fn(&mut Lent<Proved>),
+    by_value: impl Fn(&mut Lent<TightByValue>),
+    in_place: impl Fn(&mut Lent<Tight>),
+) {
+    let (proved, by_value) = (|| time(journal, &proved), || time(journal, &by_value));
+    let in_place = || time(journal, &in_place);
+    let [proved, by_value, in_place] = least([&proved, &by_value, &in_place]);
+    println!(
+        "everyday, {name}: proved {proved:.1} µs, tight by value {by_value:.1} µs (ratio {:.2}), \
+         tight in place {in_place:.1} µs (ratio {:.2})",
+        proved / by_value,
+        proved / in_place
+    );
 }
 
 fn micros(time: Duration) -> f64 {
@@ -313,23 +339,23 @@ fn micros(time: Duration) -> f64 {
 /// The same calls of both.
 macro_rules! compare {
     ($name:expr, $journal:expr, $run:ident $(, $entries:expr)?) => {
-        let second = ("second", $run::<Second $(, $entries)?>);
-        compare($name, $journal, $run::<Proved $(, $entries)?>, second)
+        compare($name, $journal, $run::<Proved $(, $entries)?>, $run::<Second $(, $entries)?>)
     };
 }
 
 /// The same calls of the proved library and of the tight one.
 macro_rules! compare_tight {
     ($name:expr, $journal:expr, $run:ident $(, $entries:expr)?) => {
-        let tight = ("tight", $run::<Tight $(, $entries)?>);
-        compare($name, $journal, $run::<Proved $(, $entries)?>, tight)
+        let by_value = $run::<TightByValue $(, $entries)?>;
+        let in_place = $run::<Tight $(, $entries)?>;
+        compare_tight($name, $journal, $run::<Proved $(, $entries)?>, by_value, in_place)
     };
 }
 
 /// The log change by change beside the second implementation's lists.
 fn compare_log(name: &str, journal: &Journal) {
     let name = format!("{name}, the log, change by change");
-    compare(&name, journal, change_by_change, ("second", log::<Second>));
+    compare(&name, journal, change_by_change, log::<Second>);
 }
 
 fn main() {
@@ -367,7 +393,7 @@ fn main() {
     for (name, journal) in [("almost full", almost_full(256)), ("full", full(256))] {
         let (proved, second) = (next(proved::next_operation), next::<Second>(next_operation));
         let name = format!("256 blocks, what comes next, {name}");
-        compare(&name, &journal, proved, ("second", second));
+        compare(&name, &journal, proved, second);
     }
     largest_logs();
 }
@@ -381,11 +407,11 @@ fn largest_logs() {
         compare_log(&name, &journal);
         for (what, span) in [("all groups", (0, n)), ("the second half", (n / 2, n))] {
             let proved = effect(proved::effect, span);
-            let second = ("second", effect::<Second>(effects::effect, span));
+            let second = effect::<Second>(effects::effect, span);
             compare(&format!("{name}, the effect of {what}"), &journal, proved, second);
         }
         let proved = mattered(proved::mattered_into);
-        let second = ("second", mattered::<Second>(mattered_into));
+        let second = mattered::<Second>(mattered_into);
         compare(&format!("{name}, which groups mattered"), &journal, proved, second);
     }
 }
@@ -393,23 +419,31 @@ fn largest_logs() {
 /// The calls of every day against the tight writer.
 fn everyday() {
     let blank = formatted(16);
-    compare_tight!("everyday, groups of 2 until 13", &blank, appends, 2);
-    compare_tight!("everyday, groups of 24 until 13", &blank, appends, 24);
-    compare_tight!("everyday, groups of 96 until 13", &blank, appends, 96);
-    let name = "everyday, 3824 single moves on 239 pages, gathered and flushed until 13";
+    compare_tight!("groups of 2 until 13", &blank, appends, 2);
+    compare_tight!("groups of 24 until 13", &blank, appends, 24);
+    compare_tight!("groups of 96 until 13", &blank, appends, 96);
+    let name = "3824 single moves on 239 pages, gathered and flushed until 13";
     compare_tight!(name, &blank, gathered);
     let journal = full(16);
-    compare_tight!("everyday, 100 commits refused by 1", &journal, refusals);
-    compare_tight!("everyday, 24 openings, full", &journal, openings);
-    compare_tight!("everyday, a commit, full", &journal, commit);
-    compare_tight!("everyday, pick and collect", &collectible(grown(16, 15)), collection);
+    compare_tight!("100 commits refused by 1", &journal, refusals);
+    compare_tight!("24 openings, full", &journal, openings);
+    compare_tight!("a commit, full", &journal, commit);
+    compare_tight!("pick and collect", &collectible(grown(16, 15)), collection);
     for (name, journal) in [("almost full", almost_full(256)), ("mostly clean", grown(256, 24))] {
-        let name = format!("everyday, 256 blocks, {name}");
+        let name = format!("256 blocks, {name}");
         compare_tight!(&format!("{name}, a group of 2"), &journal, append, 2);
         compare_tight!(&format!("{name}, a group of 24"), &journal, append, 24);
         compare_tight!(&format!("{name}, 24 openings"), &journal, openings);
         compare_tight!(&format!("{name}, a commit"), &journal, commit);
         compare_tight!(&format!("{name}, pick and collect"), &collectible(journal), collection);
+    }
+    compare_tight!("a morning", &grown(16, 100), morning);
+    for blocks in [16, 256] {
+        let name = format!("{blocks} blocks, the log");
+        compare_tight!(&format!("{name}, full of groups of 24"), &full(blocks), log);
+        let journal = gathered_full(blocks);
+        compare_tight!(&format!("{name}, full of single moves gathered"), &journal, log);
+        compare_tight!(&format!("{name}, mostly clean"), &grown(blocks, 8), log);
     }
 }
 

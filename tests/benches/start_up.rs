@@ -6,13 +6,15 @@
 //!
 //!     cargo bench --offline --manifest-path tests/Cargo.toml --bench start_up
 //!
-//! With the words `count`, an implementation (`proved`, `tight`), a block count, a
-//! medium's name and a number, it only recovers that medium so many times: for
-//! callgrind, which counts instructions.
+//! With the word `list` it only prints the names of the media. With the words
+//! `count`, an implementation (`proved`, `tight`), a block count, a medium's name and
+//! a number, it only recovers that medium so many times: for `tests/instructions`.
 
-use journal_tests::grown::{grown, How};
+use journal_tests::grown::{grown, turn_blocks, How};
 use journal_tests::random::Random;
-use journal_tests::reader::{Entry, BLOCK_BYTES, NODES, PAGE_BYTES};
+use journal_tests::reader::{
+    Entry, BASE, BEGINS, BLOCK_BYTES, ENDS, NODES, PAGE_BYTES, PAGE_ENTRIES, REMOVAL,
+};
 use journal_tests::writer::{lay_gathered, lay_page};
 use journal_tests::{proved, tight};
 use std::hint::black_box;
@@ -32,10 +34,13 @@ fn tight(medium: &[u8]) {
 // ---------------------------------------------------------------------------
 // Media
 
+/// A page's bytes.
+type Page = [u8; PAGE_BYTES];
+
 /// An empty base in page 0, then so many pages, each by its serial; the rest clean.
-fn written(blocks: usize, pages: usize, lay: impl Fn(u64) -> [u8; PAGE_BYTES]) -> Vec<u8> {
+fn written(blocks: usize, pages: usize, lay: impl Fn(u64) -> Page) -> Vec<u8> {
     let mut medium = vec![0xFF; blocks * BLOCK_BYTES];
-    let base = lay_page(2, 3, 1, &[]);
+    let base = lay_page(BASE, 3, 1, &[]);
     medium[..PAGE_BYTES].copy_from_slice(&base);
     for (serial, page) in (2..).zip(medium.chunks_exact_mut(PAGE_BYTES).skip(1).take(pages)) {
         page.copy_from_slice(&lay(serial));
@@ -43,27 +48,82 @@ fn written(blocks: usize, pages: usize, lay: impl Fn(u64) -> [u8; PAGE_BYTES]) -
     medium
 }
 
-/// Entries of the page with this serial, of 180 valves in all.
-fn entries(serial: u64, count: usize) -> Vec<Entry> {
+/// The same with as many pages as appends fill.
+fn full(blocks: usize, lay: impl Fn(u64) -> Page) -> Vec<u8> {
+    written(blocks, 16 * blocks - 17, lay)
+}
+
+/// Entries of the page with this serial, of so many valves in all.
+fn entries(serial: u64, count: usize, valves: usize) -> Vec<Entry> {
     let mut random = Random::new(serial);
-    let mut entry = || Entry { key: random.from_to(1, 180) as u16, word: random.word() };
+    let mut entry = || Entry { key: random.from_to(1, valves) as u16, word: random.word() };
     (0..count).map(|_| entry()).collect()
 }
 
-/// Pages of kind 1, each a group of so many entries.
-fn groups(count: usize) -> impl Fn(u64) -> [u8; PAGE_BYTES] {
-    move |serial| lay_page(NODES, 3, serial, &entries(serial, count))
+/// Pages of kind 1, each a group of so many entries, of 180 valves in all.
+fn groups(count: usize) -> impl Fn(u64) -> Page {
+    move |serial| lay_page(NODES, 3, serial, &entries(serial, count, 180))
+}
+
+/// Pages of kind 1, each a group of 24 entries, each changed by its place.
+fn changed(valves: usize, change: impl Fn(usize, &mut Entry)) -> impl Fn(u64) -> Page {
+    move |serial| {
+        let mut entries = entries(serial, PAGE_ENTRIES, valves);
+        entries.iter_mut().enumerate().for_each(|(place, entry)| change(place, entry));
+        lay_page(NODES, 3, serial, &entries)
+    }
+}
+
+/// Groups of 24 in which every third entry is a removal.
+fn with_removals() -> impl Fn(u64) -> Page {
+    changed(180, |place, entry| {
+        if place % 3 == 2 {
+            *entry = Entry { key: entry.key | REMOVAL, word: 0 };
+        }
+    })
+}
+
+/// Groups of 24 of 180 valves whose numbers are taken by chance from 1 to 32767.
+fn spread() -> impl Fn(u64) -> Page {
+    let mut valves: Vec<u16> = (1..REMOVAL).collect();
+    Random::new(9).shuffle(&mut valves);
+    changed(180, move |_, entry| entry.key = valves[usize::from(entry.key)])
 }
 
 /// Pages of kind 4, each with 16 groups of one entry.
-fn gathered(serial: u64) -> [u8; PAGE_BYTES] {
-    let entries = entries(serial, 16);
+fn gathered(serial: u64) -> Page {
+    let entries = entries(serial, 16, 180);
     lay_gathered(serial, &entries.chunks(1).collect::<Vec<_>>())
 }
 
-/// The same but that all pages after the ninth are spoilt: by one bit, or with the
+/// Valves from 1 on, so many, set by groups of 24, and a base of them; then other
+/// pages. A page with this serial stands one below it.
+fn based(valves: usize, lay: impl Fn(u64) -> Page) -> impl Fn(u64) -> Page {
+    let pages = valves.div_ceil(PAGE_ENTRIES);
+    move |serial| {
+        let nth = serial as usize - 2;
+        let on_page = |nth: usize, word: &dyn Fn(usize) -> u64| -> Vec<Entry> {
+            let places = PAGE_ENTRIES * nth..valves.min(PAGE_ENTRIES * (nth + 1));
+            places.map(|at| Entry { key: 1 + at as u16, word: word(at) }).collect()
+        };
+        if nth < pages {
+            lay_page(NODES, 3, serial, &on_page(nth, &|at| 1000 + at as u64))
+        } else if nth < 2 * pages {
+            let nth = nth - pages;
+            let begins = if nth == 0 { BEGINS } else { 0 };
+            let ends = if nth + 1 == pages { ENDS } else { 0 };
+            let address = |at: usize| (PAGE_ENTRIES + at) as u64;
+            lay_page(BASE, begins | ends, serial, &on_page(nth, &address))
+        } else {
+            lay(serial)
+        }
+    }
+}
+
+/// All pages written, but those after the ninth spoilt: by one bit, or with the
 /// check not programmed.
-fn spoilt(mut medium: Vec<u8>, programmed: bool) -> Vec<u8> {
+fn spoilt(blocks: usize, programmed: bool) -> Vec<u8> {
+    let mut medium = written(blocks, 16 * blocks - 1, groups(24));
     for page in medium.chunks_exact_mut(PAGE_BYTES).skip(9) {
         if programmed {
             page[2] = 0xFF;
@@ -74,35 +134,50 @@ fn spoilt(mut medium: Vec<u8>, programmed: bool) -> Vec<u8> {
     medium
 }
 
-/// The same bytes, runs of this length put in this order.
-fn in_order(medium: &[u8], run: usize, order: impl Fn(&mut [usize])) -> Vec<u8> {
+/// A full medium, runs of so many bytes put in this order.
+fn in_order(blocks: usize, run: usize, order: impl Fn(&mut [usize])) -> Vec<u8> {
+    let medium = full(blocks, groups(24));
     let mut from: Vec<usize> = (0..medium.len() / run).collect();
     order(&mut from);
     from.iter().flat_map(|&nth| medium[nth * run..][..run].iter().copied()).collect()
 }
 
-fn media(blocks: usize) -> Vec<(&'static str, Vec<u8>)> {
-    let all = 16 * blocks - 17;
-    let full = written(blocks, all, groups(24));
-    let shuffled = in_order(&full, BLOCK_BYTES, |order| Random::new(7).shuffle(order));
-    let turned = in_order(&full, BLOCK_BYTES, |order| order.rotate_left(blocks / 2));
-    let falling = in_order(&full, PAGE_BYTES, |order| order.reverse());
-    let spoilt_checked = spoilt(written(blocks, 16 * blocks - 1, groups(24)), true);
-    let spoilt_unchecked = spoilt(written(blocks, 16 * blocks - 1, groups(24)), false);
-    vec![
-        ("full, groups of 24", full),
-        ("full, groups of 2", written(blocks, all, groups(2))),
-        ("full, 16 groups of 1 to a page", written(blocks, all, gathered)),
-        ("written for long, with commits and collections", grown(blocks, How::Round).medium),
-        ("mostly clean", written(blocks, 8, groups(24))),
-        ("clean but the base", written(blocks, 0, groups(24))),
-        ("all but 9 pages spoilt, check programmed", spoilt_checked),
-        ("all but 9 pages spoilt, check not programmed", spoilt_unchecked),
-        ("full, blocks turned by half", turned),
-        ("full, blocks in any order", shuffled),
-        ("full, serials falling", falling),
-    ]
+/// A journal whose serials go on at block 0, with a commit and three groups last.
+fn wrapped(blocks: usize) -> Vec<u8> {
+    let mut life = grown(blocks, How::High);
+    turn_blocks(&mut life, blocks / 2);
+    life.medium
 }
+
+/// The name of a medium, and how it is made on so many blocks.
+type Made = (&'static str, fn(usize) -> Vec<u8>);
+
+const MEDIA: [Made; 16] = [
+    ("full, groups of 24", |blocks| full(blocks, groups(24))),
+    ("full, groups of 2", |blocks| full(blocks, groups(2))),
+    ("full, 16 groups of 1 to a page", |blocks| full(blocks, gathered)),
+    ("written for long, with commits and collections", |blocks| grown(blocks, How::Round).medium),
+    ("mostly clean", |blocks| written(blocks, 8, groups(24))),
+    ("clean but the base", |blocks| written(blocks, 0, groups(24))),
+    ("all but 9 pages spoilt, check programmed", |blocks| spoilt(blocks, true)),
+    ("all but 9 pages spoilt, check not programmed", |blocks| spoilt(blocks, false)),
+    ("full, blocks turned by half", |blocks| {
+        in_order(blocks, BLOCK_BYTES, |order| order.rotate_left(blocks / 2))
+    }),
+    ("full, blocks in any order", |blocks| {
+        in_order(blocks, BLOCK_BYTES, |order| Random::new(7).shuffle(order))
+    }),
+    ("full, serials falling", |blocks| in_order(blocks, PAGE_BYTES, |order| order.reverse())),
+    ("full, 180 valves spread over 1 to 32767", |blocks| full(blocks, spread())),
+    ("full, 12 of the base's 180 valves set again", |blocks| {
+        full(blocks, based(180, changed(12, |_, _| {})))
+    }),
+    ("full, every third entry a removal", |blocks| full(blocks, with_removals())),
+    ("a base of 192 valves and nothing after it", |blocks| {
+        written(blocks, 16, based(192, groups(24)))
+    }),
+    ("come round, with a recent base", wrapped),
+];
 
 // ---------------------------------------------------------------------------
 // Times
@@ -130,19 +205,29 @@ fn micros(time: Duration) -> f64 {
     time.as_secs_f64() * 1e6
 }
 
+/// Recovers the medium of a name so many times.
+fn count(which: &str, blocks: &str, name: &str, times: &str) {
+    let recover = if which == "proved" { proved } else { tight };
+    let (_, made) = MEDIA.iter().find(|medium| medium.0 == name).expect("a medium's name");
+    let medium = made(blocks.parse().expect("a block count"));
+    (0..times.parse().expect("a number")).for_each(|_: usize| recover(&medium));
+}
+
 fn main() {
     let words: Vec<String> = std::env::args().skip(1).filter(|word| word != "--bench").collect();
-    if let [count, which, blocks, name, times] = &words[..] {
-        assert_eq!(count, "count");
-        let recover = if which == "proved" { proved } else { tight };
-        let media = media(blocks.parse().expect("a block count"));
-        let (_, medium) = media.iter().find(|medium| medium.0 == name).expect("a medium's name");
-        (0..times.parse().expect("a number")).for_each(|_: usize| recover(medium));
-        return;
+    match &words.iter().map(String::as_str).collect::<Vec<_>>()[..] {
+        ["list"] => MEDIA.iter().for_each(|(name, _)| println!("{name}")),
+        ["count", which, blocks, name, times] => count(which, blocks, name, times),
+        [] => times(),
+        _ => panic!("no such words: {words:?}"),
     }
+}
+
+/// Prints the times as a table.
+fn times() {
     println!("| medium | proved | tight | ratio | disturbed |\n|---|---|---|---|---|");
     for blocks in [16, 256] {
-        let media = media(blocks);
+        let media = MEDIA.map(|(name, made)| (name, made(blocks)));
         for (nth, (name, medium)) in media.iter().enumerate() {
             let others = [1, 4, 9].map(|more| &*media[(nth + more) % media.len()].1);
             let [proved, tight] = least(medium, &[]);

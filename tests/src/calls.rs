@@ -3,8 +3,8 @@
 
 use crate::proved::{self, VjState};
 use crate::reader::{self, Entry, Record, Refused, State, WordAt, MAX_BLOCKS, PAGE_BYTES};
-use crate::tight_writer;
 use crate::writer::{self, Pending, Step};
+use crate::{tight_by_value, tight_writer};
 use std::fmt::Debug;
 
 /// An empty buffer.
@@ -20,8 +20,13 @@ pub struct Proved;
 /// The second implementation.
 pub struct Second;
 
-/// The yardstick for times, on the proved library's state.
+/// The yardstick for times, on the proved library's state, which it changes where
+/// it stands.
 pub struct Tight;
+
+/// The same behind the proved library's interface, which takes the state by value
+/// and hands it back.
+pub struct TightByValue;
 
 /// The calls of one implementation. Each has the name, the arguments and the
 /// answer that it has there.
@@ -117,6 +122,7 @@ macro_rules! calls {
 
 calls!(Proved, VjState, VjState::from, meaning, formats, proved, proved);
 calls!(Tight, VjState, VjState::from, meaning, formats, tight_writer, tight_writer);
+calls!(TightByValue, VjState, VjState::from, meaning, formats, tight_by_value, tight_by_value);
 calls!(Second, State, State::clone, State::clone, second_formats, reader, writer);
 
 /// What a state of the proved library means.

@@ -120,13 +120,26 @@ fn make_room(random: &mut Random, life: &mut Life) {
     finished(life, &Action::Collect { block: picked.expect("a collectible block") });
 }
 
-/// Puts the blocks of a journal with nothing pending in any order. Base pages
-/// and the state then name the places where the nodes have come to stand.
+/// Puts the blocks of a journal with nothing pending in any order.
 pub fn shuffle_blocks(random: &mut Random, life: &mut Life) {
+    let mut to: Vec<usize> = (0..state(life).blocks).collect();
+    random.shuffle(&mut to);
+    move_blocks(life, &to);
+}
+
+/// Turns the blocks of a journal with nothing pending by so many: its serials go
+/// on at block 0, as those of one that has come round.
+pub fn turn_blocks(life: &mut Life, by: usize) {
+    let mut to: Vec<usize> = (0..state(life).blocks).collect();
+    to.rotate_left(by);
+    move_blocks(life, &to);
+}
+
+/// Puts each block where it is told. Base pages and the state then name the places
+/// where the nodes have come to stand.
+fn move_blocks(life: &mut Life, to: &[usize]) {
     let state = life.state.as_mut().expect("a state");
     assert_eq!(state.pending, None);
-    let mut to: Vec<usize> = (0..state.blocks).collect();
-    random.shuffle(&mut to);
     let (medium, weak, erased) = (life.medium.clone(), life.weak.clone(), state.erased);
     for (block, bytes) in medium.chunks_exact(BLOCK_BYTES).enumerate() {
         life.medium[to[block] * BLOCK_BYTES..][..BLOCK_BYTES].copy_from_slice(bytes);
@@ -134,8 +147,8 @@ pub fn shuffle_blocks(random: &mut Random, life: &mut Life) {
         state.erased[to[block]] = erased[block];
     }
     state.head = to[state.head];
-    state.index.iter_mut().for_each(|place| place.address = moved(&to, place.address));
-    life.medium.chunks_exact_mut(PAGE_BYTES).for_each(|page| move_addresses(page, &to));
+    state.index.iter_mut().for_each(|place| place.address = moved(to, place.address));
+    life.medium.chunks_exact_mut(PAGE_BYTES).for_each(|page| move_addresses(page, to));
 }
 
 /// The address after each block has gone to its new number.

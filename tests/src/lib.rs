@@ -19,8 +19,9 @@
 //!   cuts played by either.
 //! * [`run`]: whole operations from C, over a chip whose driver can fail.
 //! * [`stack`]: how much stack a call takes.
-//! * [`tight`]: recovery as tight as it can be written, the yardstick for times;
-//!   [`tight_writer`]: the calls of every day likewise.
+//! * [`tight`]: recovery and the log as tight as they can be written, the yardstick
+//!   for times; [`tight_writer`]: the calls of every day likewise;
+//!   [`tight_by_value`]: these behind the library's interface.
 //! * [`trace`]: recorded runs, their form, and what is printed for them;
 //!   [`corners`]: those made by hand.
 
@@ -45,6 +46,8 @@ pub mod run;
 #[allow(unsafe_code)]
 pub mod stack;
 pub mod tight;
+#[allow(unsafe_code)]
+pub mod tight_by_value;
 pub mod tight_writer;
 pub mod trace;
 #[allow(unsafe_code)]

@@ -3,7 +3,7 @@
 
 mod common;
 
-use common::{read_out, refused, LogLists, ReadOut};
+use common::{read_out, refused, some_lengths, LogLists, ReadOut};
 use journal_tests::proved::{self, count_available, open, pick, survey, VjState};
 use journal_tests::random::{self, Random};
 use journal_tests::reader::{self, Entry, Refused, State};
@@ -23,13 +23,7 @@ fn logs(medium: &[u8], lengths: [usize; 3]) -> [ReadOut; 2] {
 fn agree(random: &mut Random, medium: &[u8]) -> u8 {
     let expected = reader::recover(medium);
     assert_eq!(recover(medium), expected);
-    let changes = reader::replay(medium).map_or(0, |replay| replay.log_length());
-    // One, two or all three of the lists are too short, if the log is not empty.
-    let (which, short) = (random.from_to(1, 7), random.below(changes.max(1)));
-    let most = reader::most_changes(medium);
-    let too_short = [1, 2, 4].map(|list| if which & list != 0 { short } else { most });
-    let longer = [changes + 3, changes + 1, changes + 2];
-    for lengths in [[most; 3], [changes; 3], longer, too_short] {
+    for lengths in some_lengths(random, medium) {
         let [proved, second] = logs(medium, lengths);
         assert!(proved == second, "{lengths:?}: {:?}, not {:?}", proved.0, second.0);
     }

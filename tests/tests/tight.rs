@@ -1,30 +1,51 @@
-//! The tight recovery against the second implementation: the refusal or the
-//! state of each, on many media. It is a yardstick only while they agree.
+//! The tight recovery and the tight log against the second implementation: the
+//! refusal, the state and the lists of each, on many media; the log also behind
+//! the library's interface. They are a yardstick only while they agree.
 
+mod common;
+
+use common::{read_out, refused, some_lengths};
 use journal_tests::grown::{some_blocks, some_grown};
+use journal_tests::logs::each_medium;
 use journal_tests::random::{self, Random};
-use journal_tests::{reader, tight};
+use journal_tests::{reader, tight, tight_by_value};
 
-/// Both say the same of a medium; the refusal, or 0.
-fn agree(medium: &[u8]) -> u8 {
+/// How often each answer came: 0 and 1 to 6 of recovery, 17 of the log.
+type Seen = [u32; 18];
+
+/// All say the same of a medium, the log with lists of several lengths; the
+/// refusal of recovery, or 0.
+fn agree(random: &mut Random, seen: &mut Seen, medium: &[u8]) -> u8 {
     let expected = reader::recover(medium);
     assert_eq!(tight::recover(medium).map(|recovered| recovered.state()), expected);
-    expected.map_or_else(|refused| refused.0, |_| 0)
+    for lengths in some_lengths(random, medium) {
+        let second = read_out(reader::log_into, medium, lengths);
+        for log_into in [tight::log_into, tight_by_value::log_into] {
+            let tight = read_out(log_into, medium, lengths);
+            assert!(tight == second, "{lengths:?}: {:?}, not {:?}", tight.0, second.0);
+        }
+        seen[17] += u32::from(second.0 == refused(17));
+    }
+    let number = expected.map_or_else(|refused| refused.0, |_| 0);
+    seen[usize::from(number)] += 1;
+    number
 }
 
 #[test]
 fn on_media_that_were_lived() {
-    let mut random = Random::new(51);
+    let (mut random, mut seen) = (Random::new(51), [0; 18]);
     for events in 0..1500 {
-        agree(&random::lived(&mut random, events % 400).medium);
-        assert_eq!(agree(&random::medium(&mut random)), 0);
+        let lived = random::lived(&mut random, events % 400).medium;
+        agree(&mut random, &mut seen, &lived);
+        let medium = random::medium(&mut random);
+        assert_eq!(agree(&mut random, &mut seen, &medium), 0);
     }
+    assert!(seen[17] >= 1000, "lists are often too short: {seen:?}");
 }
 
 #[test]
 fn on_damaged_media() {
-    let mut random = Random::new(52);
-    let mut seen = [0u32; 7];
+    let (mut random, mut seen) = (Random::new(52), [0; 18]);
     for _ in 0..5000 {
         let mut medium = random::medium(&mut random);
         for _ in 0..random.from_to(1, 4) {
@@ -32,19 +53,22 @@ fn on_damaged_media() {
                 random::damage(&mut random, &mut medium);
             }
         }
-        seen[agree(&medium) as usize] += 1;
-        seen[agree(&random::sketched(&mut random)) as usize] += 1;
+        agree(&mut random, &mut seen, &medium);
+        let sketched = random::sketched(&mut random);
+        agree(&mut random, &mut seen, &sketched);
     }
-    assert!(seen.iter().all(|&n| n >= 40), "each answer from 0 to 6 comes often: {seen:?}");
+    let often = |number: usize| seen[number] >= 40;
+    assert!((0..=6).chain([17]).all(often), "each answer comes often: {seen:?}");
 }
 
 #[test]
 fn on_each_way_to_be_refused() {
-    let mut random = Random::new(53);
+    let (mut random, mut seen) = (Random::new(53), [0; 18]);
     for number in 1..=6 {
         for way in 0..random::ways(number) {
             for _ in 0..40 {
-                assert_eq!(agree(&random::refused_medium(&mut random, number, way)), number);
+                let medium = random::refused_medium(&mut random, number, way);
+                assert_eq!(agree(&mut random, &mut seen, &medium), number);
             }
         }
     }
@@ -52,16 +76,26 @@ fn on_each_way_to_be_refused() {
 
 #[test]
 fn on_media_of_many_blocks_and_with_pages_in_any_order() {
-    let mut random = Random::new(54);
+    let (mut random, mut seen) = (Random::new(54), [0; 18]);
     for _ in 0..150 {
         let blocks = some_blocks(&mut random);
         let mut medium = some_grown(&mut random, blocks).medium;
-        agree(&medium);
+        agree(&mut random, &mut seen, &medium);
         for _ in 0..5 {
             random::swap_pages(&mut random, &mut medium);
-            agree(&medium);
+            agree(&mut random, &mut seen, &medium);
         }
         random::damage(&mut random, &mut medium);
-        agree(&medium);
+        agree(&mut random, &mut seen, &medium);
     }
+}
+
+/// Logs by chance and made for the purpose, the largest among them.
+#[test]
+fn on_media_made_for_the_log() {
+    let (mut random, mut seen) = (Random::new(55), [0; 18]);
+    each_medium(56, 200, |_, medium| {
+        agree(&mut random, &mut seen, medium);
+    });
+    assert!(seen[0] >= 500 && seen[17] >= 300, "logs are often read: {seen:?}");
 }

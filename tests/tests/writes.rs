@@ -15,7 +15,7 @@ use common::{
     blank, circumstances, expected_read_out, happening, lists, pending_name, read_out, refused,
     touched, valves, variable, Given, Seed, EMPTY,
 };
-use journal_tests::calls::{Calls, Proved, Second, Tight};
+use journal_tests::calls::{Calls, Proved, Second, Tight, TightByValue};
 use journal_tests::dispatcher::next_operation;
 use journal_tests::grown::{some_blocks, BLOCK_COUNTS};
 use journal_tests::player::{Action, Answer, Outcome, Player, Reading};
@@ -452,12 +452,22 @@ fn lists_of_calls_and_cuts() {
 /// The yardstick for times says the same: fewer lists on few blocks and on many.
 #[test]
 fn lists_of_calls_and_cuts_by_the_yardstick() {
+    fewer_lists::<Tight>(0);
+}
+
+/// And so it does behind the library's interface.
+#[test]
+fn lists_of_calls_and_cuts_by_the_yardstick_by_value() {
+    fewer_lists::<TightByValue>(100);
+}
+
+fn fewer_lists<C: Calls<State = VjState>>(first: u64) {
     let mut counts = Counts::new();
-    for life in 0..40 {
-        live::<Tight>(life, 4 + life as usize % 13, LIFE, &mut counts);
+    for life in first..first + 40 {
+        live::<C>(life, 4 + life as usize % 13, LIFE, &mut counts);
     }
     for blocks in BLOCK_COUNTS {
-        (0..4).for_each(|seed| live::<Tight>(seed, blocks, 400, &mut counts));
+        (first..first + 4).for_each(|seed| live::<C>(seed, blocks, 400, &mut counts));
     }
     no_step_due_is_refused(&counts);
     check_counts(&counts, 5, MANY);
@@ -985,6 +995,12 @@ fn any_medium_any_state_and_any_lists() {
 #[test]
 fn any_medium_any_state_and_any_lists_by_the_yardstick() {
     any_of_all::<Tight>();
+}
+
+/// And so it does behind the library's interface.
+#[test]
+fn any_medium_any_state_and_any_lists_by_the_yardstick_by_value() {
+    any_of_all::<TightByValue>();
 }
 
 fn any_of_all<C: Calls<State = VjState>>() {

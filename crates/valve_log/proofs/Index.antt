@@ -127,12 +127,6 @@ pub sound-assign : (v : List View) (e : Cell) (a : ℕ) (l : List Cell) → word
 unfolding sound
 sound-assign v e a l w s = all-assign (hasWord v) l (cell (e .key) a) (λ f. rw w (unfold isSome in refl)) s
 
--- some entries, then others
-pub assign-append : (l a b : List Cell) → assignAll l (a ++ b) ≡ assignAll (assignAll l a) b
-unfolding assignAll
-assign-append l [] b = refl
-assign-append l (e ∷ a) b = assign-append (assign l e) a b
-
 -- ---- moved nodes
 
 pub in-words : (v : List View) {x : Cell} {l : List Cell} → In x l → In (cell (x .key) (valueOr 0 (wordAt v x))) (words v l)

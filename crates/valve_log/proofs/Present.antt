@@ -13,9 +13,10 @@ use Rattle.page.specs.Pages.{View, clean, whole, isClean}
 use Rattle.flash.specs.Medium.{seen}
 use Rattle.flash.proofs.Steps.{seen-set-other}
 use Rattle.index.specs.Index.{assign, assignAll}
+use Rattle.index.proofs.Entries.{assign-append}
 use Rattle.nodes.specs.Nodes.{setsValves, entryIn, nodeIn, wordFor, wordAt, sound, words}
 use Rattle.recovery.specs.Recovery.{Placed, kindOf, entriesOf}
-use Rattle.valve_log.proofs.Index.{nodes, nodesOf, words-assign, sound-assign, assign-append}
+use Rattle.valve_log.proofs.Index.{nodes, nodesOf, words-assign, sound-assign}
 use Rattle.valve_log.proofs.Views.{clean-is}
 
 pub record Present (v : List View) (x : Placed) : Type 0 where

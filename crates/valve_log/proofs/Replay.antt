@@ -16,10 +16,11 @@ use Rattle.lists.specs.Lists.{all}
 use Rattle.lists.specs.Cells.{cell, Entry}
 use Rattle.lists.proofs.Laws.{and-l, and-r, and-both, all-head, all-tail}
 use Rattle.index.specs.Index.{entering, mostValves, risingFrom, assign, assignAll, within}
+use Rattle.index.proofs.Entries.{assign-append, within-append}
 use Rattle.recovery.specs.Recovery.{Placed, kindOf, Group, entriesOf, logOfGroup, logOf, above, stack, enterOne, enterAll, enterPage, enterPages}
 use Rattle.recovery.proofs.Pages.{above-snoc}
 use Rattle.step.specs.Step.{groupPage, addressedFrom, addressed}
-use Rattle.valve_log.proofs.Index.{nodes, nodesOf, assign-append}
+use Rattle.valve_log.proofs.Index.{nodes, nodesOf}
 use Rattle.valve_log.proofs.Groups.{lay}
 
 -- ---- group by group, page by page
@@ -37,16 +38,10 @@ enter-pages-append o (x ∷ a) b = enter-pages-append (enterPage o x) a b
 -- ---- a group of nodes
 
 within-left : (l a b : List Cell) → within l (a ++ b) ≡ true → within l a ≡ true
-unfolding within
-within-left l [] b h = refl
-within-left l (e ∷ a) b h =
-    and-both (and-l (leb (length (assign l e)) mostValves) (within (assign l e) (a ++ b)) h)
-    (within-left (assign l e) a b (and-r (leb (length (assign l e)) mostValves) (within (assign l e) (a ++ b)) h))
+within-left l a b h = and-l (within l a) (within (assignAll l a) b) (sym (within-append l a b) ∙ h)
 
 within-right : (l a b : List Cell) → within l (a ++ b) ≡ true → within (assignAll l a) b ≡ true
-unfolding within assignAll
-within-right l [] b h = h
-within-right l (e ∷ a) b h = within-right (assign l e) a b (and-r (leb (length (assign l e)) mostValves) (within (assign l e) (a ++ b)) h)
+within-right l a b h = and-r (within l a) (within (assignAll l a) b) (sym (within-append l a b) ∙ h)
 
 enter-nodes : (k a : ℕ) (l es : List Cell) → eqb k 2 ≡ false → within l (nodes a es) ≡ true → enterAll k a (some l) es ≡ some (assignAll l (nodes a es))
 unfolding enterAll enterOne entering nodes within assignAll

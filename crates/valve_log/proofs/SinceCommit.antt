@@ -15,12 +15,12 @@ use Rattle.index.specs.Index.{valveOf, lookup, rising, risingFrom, assign, assi
 use Rattle.index.proofs.Rising.{assign-rising}
 use Rattle.effects.specs.Effects.{touch, join, effect, ascendsFrom, ascends}
 use Rattle.effects.proofs.Laws.{by-order, touch-before, touch-same, touch-after, ascends-head, ascends-tail, ascends-cons, ascends-lower, nothing-ascends, touch-ascends, effect-changes}
-use Rattle.wanted_group.proofs.Lookup.{valve, assign-it, assign-else, same-list}
+use Rattle.index.proofs.Lookup.{valve, assign-it, assign-else, same-list}
+use Rattle.index.proofs.Entries.{all-rising, assign-append}
 use Rattle.valve_log.specs.History.{UnderWay, nothing, appending, committing, collecting, flushing, History, start as noHistory, Told, unchanged}
 use Rattle.valve_log.specs.History.{beganAppend, beganCommit, beganCollect, putIn, beganFlush, steppedPage, steppedBlock, recovery, counted, tell}
 use Rattle.valve_log.specs.Reached.{World, happen, Reached, Words, Point3}
 use Rattle.valve_log.specs.SinceCommit.{commitEndsNext, settingsAtCommit, lastCommitted, EffectExplains}
-use Rattle.valve_log.proofs.Index.{assign-append}
 use Rattle.valve_log.proofs.Point3.{point3}
 use Rattle.valve_log.proofs.Steps.{assign-groups}
 
@@ -59,11 +59,6 @@ module _ (s : List Setting) (x e : Entry) (r : rising s ≡ true) where
       (λ q. let z = eqb-false k (valveOf e) q in assign-else (assign s x) e k (assign-rising s x r) z ∙ assign-else s x k r (λ w. z (w ∙ d)) ∙ sym (assign-else s e k r z)))
 
 -- ---- an effect laid on settings
-
-all-rising : (s : List Setting) (es : List Entry) → rising s ≡ true → rising (assignAll s es) ≡ true
-unfolding assignAll
-all-rising s [] r = r
-all-rising s (e ∷ es) r = all-rising (assign s e) es (assign-rising s e r)
 
 -- an entry before those of higher valves, or after them
 past-all : (s : List Setting) (e : Entry) (a : List Entry) → rising s ≡ true → ascendsFrom (suc (valveOf e)) a ≡ true → assignAll (assign s e) a ≡ assign (assignAll s a) e

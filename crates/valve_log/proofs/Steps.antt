@@ -32,8 +32,9 @@ use Rattle.valve_log.proofs.Order.{from-parts, from-from, from-sort, wa
 use Rattle.valve_log.proofs.Order.{starts-more, consecutive-left, consecutive-right, consecutive-reaches, consecutive-below}
 use Rattle.index.proofs.Keys.{within-same}
 use Rattle.index.proofs.Members.{In, in-all, all-in}
+use Rattle.index.proofs.Entries.{assign-append}
 use Rattle.nodes.proofs.Alive.{keys-words, words-length, rising-words}
-use Rattle.valve_log.proofs.Index.{valves, nodes, nodesOf, keys-group, valves-words, tidy-assign, assign-append, in-words, move-same, move-within}
+use Rattle.valve_log.proofs.Index.{valves, nodes, nodesOf, keys-group, valves-words, tidy-assign, in-words, move-same, move-within}
 use Rattle.flash.proofs.Laws.{clean-in}
 use Rattle.valve_log.proofs.Present.{PresentAll, nil, cons, present-snoc, present-set, group-words, group-sound}
 use Rattle.valve_log.proofs.Small.{Small}

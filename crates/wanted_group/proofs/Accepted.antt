@@ -2,22 +2,21 @@
 use mathlib.Core.Path.{_≡_, refl, sym, ap, _∙_}
 use mathlib.Core.Bool.{true, false, cond}
 use mathlib.Core.Option.{Option, none, some}
-use mathlib.Core.List.{List, [], _∷_, _++_}
+use mathlib.Core.List.{List, [], _∷_}
 use Prim.Native.Nat.{ℕ, suc, _+_, _-_, _≤_}
 use native.Mathlib.Omega.{arith}
 use lib.ListN.{length}
-use lib.Dec.{leb}
 use borrow.Author.Tests.{le-leb, le-ltb}
 use Rattle.lists.specs.declared.Cell.{Cell}
 use Rattle.lists.specs.Lists.{all, isSome}
-use Rattle.lists.proofs.Laws.{by-cases, and-l, and-r, and-both, all-head, all-tail, true-false, by-eq}
+use Rattle.lists.proofs.Laws.{by-cases, and-both, all-head, all-tail, true-false, by-eq}
 use Rattle.index.specs.Index.{lookup, risingFrom, rising, assign, assignAll, within}
 use Rattle.index.proofs.Rising.{rising-tail, assign-rising}
 use Rattle.index.proofs.Assigned.{lookup-below}
-use Rattle.index.proofs.Pairs.{remove-few}
 use Rattle.wanted_group.specs.Group.{isValve, removalsFor, settingsFor, groupFor}
-use Rattle.wanted_group.proofs.Lookup.{valve, three, lookup-none, lookup-here, lookup-past, lookup-before, lookup-other, assign-else}
-use Rattle.wanted_group.proofs.Leads.{gone, told-removals, lookup-all, all-rising, removal, setting-valve, isWanted, stands, removals-kept, removals-gone, settings-same, settings-new}
+use Rattle.index.proofs.Entries.{remove-few, all-rising, within-append}
+use Rattle.index.proofs.Lookup.{valve, three, lookup-none, lookup-here, lookup-past, lookup-before, lookup-other, assign-else}
+use Rattle.wanted_group.proofs.Leads.{gone, told-removals, lookup-all, removal, setting-valve, isWanted, stands, removals-kept, removals-gone, settings-same, settings-new}
 
 -- ---- a rising list whose valves are all valves of another is not longer
 
@@ -73,14 +72,6 @@ within-cons : (l : List Cell) (e : Cell) (es : List Cell) → length (assign l e
 unfolding within
 within-cons l e es h p = and-both (le-leb _ _ h) p
 
-within-append : (l es fs : List Cell) → within l es ≡ true → within (assignAll l es) fs ≡ true → within l (es ++ fs) ≡ true
-unfolding within assignAll
-within-append l [] fs p q = q
-within-append l (e ∷ es) fs p q =
-    let first = and-l (leb (length (assign l e)) 192) (within (assign l e) es) p in
-    let rest = and-r (leb (length (assign l e)) 192) (within (assign l e) es) p in
-    and-both first (within-append (assign l e) es fs rest q)
-
 removal-shorter : (l : List Cell) (x : Cell) → length (assign l (removal x)) ≤ length l
 unfolding assign
 removal-shorter l x =
@@ -129,5 +120,6 @@ unfolding groupFor rising
 group-within s w r q a few few₂ =
     let left : Part (assignAll s (removalsFor s w)) w
     = λ k e. left-part (lookup k s) (lookup k w) (ap isSome (sym (lookup-all s (removalsFor s w) k r ∙ told-removals s w k 0 (lookup k s) r)) ∙ e) in
-    within-append s (removalsFor s w) (settingsFor s w) (within-removals s w s few)
+    within-append s (removalsFor s w) (settingsFor s w)
+    ∙ and-both (within-removals s w s few)
     (within-settings s w w (assignAll s (removalsFor s w)) 0 few₂ q (all-rising s (removalsFor s w) r) q a (λ k e. e) left)

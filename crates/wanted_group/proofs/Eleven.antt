@@ -16,7 +16,7 @@ use Rattle.lists.specs.declared.Found.the-variants.{At, Missing}
 use Rattle.lists.specs.Found.{foundOf}
 use Rattle.index.proofs.Rising.{rising-head, rising-tail, rising-cons}
 use Rattle.wanted_group.specs.Group.{isValve, same, removalsFor, settingsFor, groupFor}
-use Rattle.wanted_group.proofs.Lookup.{valve, word, lookup-none, lookup-here, lookup-before}
+use Rattle.index.proofs.Lookup.{valve, word, lookup-none, lookup-here, lookup-before}
 use Rattle.wanted_group.proofs.Leads.{told, lookup-all, removal, isWanted, stands, removals-kept, removals-gone, settings-same, settings-new}
 
 -- ---- entries one by one

@@ -15,7 +15,7 @@ use Rattle.lists.proofs.Laws.{by-cases, all-head, all-tail}
 use Rattle.index.specs.Index.{lookup, risingFrom, rising, assign, assignAll}
 use Rattle.index.proofs.Rising.{rising-tail, assign-rising}
 use Rattle.wanted_group.specs.Group.{isValve, same, removalsFor, settingsFor, groupFor, differing}
-use Rattle.wanted_group.proofs.Lookup.{valve, lookup-none, lookup-here, lookup-other, assign-else}
+use Rattle.index.proofs.Lookup.{valve, lookup-none, lookup-here, lookup-other, assign-else}
 use Rattle.wanted_group.proofs.Leads.{isWanted, stands, removals-kept, removals-gone, settings-same, settings-new, rest-none, gone, gone-none, gone-some, changed}
 use Rattle.wanted_group.proofs.Counting.{count-change, count-more, count-sum, count-none}
 

@@ -14,19 +14,15 @@ use Rattle.lists.proofs.Laws.{by-cases, all-head, all-tail, by-eq}
 use Rattle.index.specs.Index.{lookup, risingFrom, rising, assign, assignAll}
 use Rattle.index.proofs.Rising.{rising-tail, assign-rising}
 use Rattle.index.proofs.Assigned.{lookup-below}
+use Rattle.index.proofs.Entries.{all-rising}
 use Rattle.wanted_group.specs.Group.{isValve, same, removalsFor, settingsFor, groupFor}
-use Rattle.wanted_group.proofs.Lookup.{valve, word, lookup-none, lookup-here, lookup-other, assign-it, assign-else, same-list}
+use Rattle.index.proofs.Lookup.{valve, word, lookup-none, lookup-here, lookup-other, assign-it, assign-else, same-list}
 
 -- ---- what entries, in order, say of a valve that had o
 
 abbrev pub told : ℕ → List Cell → Option ℕ → Option ℕ
 told k [] o = o
 told k (e ∷ es) o = told k es (cond (eqb k (valve e)) (word e) o)
-
-pub all-rising : (l es : List Cell) → rising l ≡ true → rising (assignAll l es) ≡ true
-unfolding assignAll
-all-rising l [] r = r
-all-rising l (e ∷ es) r = all-rising (assign l e) es (assign-rising l e r)
 
 pub lookup-all : (l es : List Cell) (k : ℕ) → rising l ≡ true → lookup k (assignAll l es) ≡ told k es (lookup k l)
 unfolding assignAll

@@ -1,4 +1,3 @@
-pub mod Lookup
 pub mod Leads
 pub mod Counting
 pub mod Fewest

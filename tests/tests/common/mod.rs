@@ -4,7 +4,7 @@
 pub use journal_tests::calls::{read_out, LogInto, LogLists, ReadOut, EMPTY};
 use journal_tests::calls::{Calls, Second};
 use journal_tests::player::{Action, Outcome};
-use journal_tests::random::Life;
+use journal_tests::random::{Life, Random};
 use journal_tests::reader::*;
 use journal_tests::writer::{self, Pending, State, Step, Touched};
 use std::io::{ErrorKind, Write};
@@ -77,6 +77,17 @@ pub fn expected_read_out(log: &[Vec<Entry>], lengths: [usize; 3]) -> ReadOut {
         (lists.keys[at], lists.words[at], lists.groups[at]) = (entry.key, entry.word, group);
     }
     (Ok(length), lists)
+}
+
+/// Lengths of lists to lend to the log read-out of a medium: as long as a log can
+/// be, as this one is, longer by unequal numbers; and last, where the log is not
+/// empty, too short for it in one, two or all three of the lists.
+pub fn some_lengths(random: &mut Random, medium: &[u8]) -> [[usize; 3]; 4] {
+    let changes = replay(medium).map_or(0, |replay| replay.log_length());
+    let (which, short) = (random.from_to(1, 7), random.below(changes.max(1)));
+    let most = most_changes(medium);
+    let too_short = [1, 2, 4].map(|list| if which & list != 0 { short } else { most });
+    [[most; 3], [changes; 3], [changes + 3, changes + 1, changes + 2], too_short]
 }
 
 /// A buffer that holds these groups.
