@@ -128,9 +128,10 @@ static inline const char *vj_refusal_text(uint8_t number)
 }
 
 /* The most bytes of stack that each call takes on x86-64, whatever is lent to it, with what the caller puts there for its arguments and its
- * answer: as a C program compiled by gcc 12 with -O2 was seen to take on media of 256 blocks, full ones of 45 shapes among them, at least 256
- * bytes more, and rounded up to a multiple of 1024. tests/tests/stack.rs measures it anew, and fails where a call takes more than is said here,
- * or over 2048 bytes less. VJ_STACK_MOST is enough for every call. */
+ * answer: as a C program compiled by gcc 12 with -O2 was seen to take on media of 256 blocks, full ones of 45 shapes among them, and with states
+ * in which nothing, an append, a commit, a collection or a flush is pending, with at least 256 bytes added, rounded up to a multiple of 1024.
+ * tests/tests/stack.rs measures it anew, and fails where a call takes more than is said here, or over 2048 bytes less. VJ_STACK_MOST is enough
+ * for every call. */
 enum {
     VJ_STACK_RECOVER = 73728,
     VJ_STACK_LOG = 68608,
@@ -140,20 +141,20 @@ enum {
     VJ_STACK_MATTERED = 173056,
     VJ_STACK_PAGE = 1024,
     VJ_STACK_OPENING = 11264,
-    VJ_STACK_SETTINGS = 21504,
+    VJ_STACK_SETTINGS = 13312,
     VJ_STACK_PICK = 11264,
     VJ_STACK_SURVEY = 16384,
     VJ_STACK_AVAILABLE = 11264,
-    VJ_STACK_WORD = 17408,
-    VJ_STACK_WANTED = 34816,
+    VJ_STACK_WORD = 15360,
+    VJ_STACK_WANTED = 22528,
     VJ_STACK_NEXT = 21504,
     VJ_STACK_FORMAT = 5120,
-    VJ_STACK_APPEND = 27648,
-    VJ_STACK_COMMIT = 25600,
-    VJ_STACK_COLLECT = 25600,
-    VJ_STACK_FLUSH = 27648,
-    VJ_STACK_BUFFER = 26624,
-    VJ_STACK_STEP = 44032,
+    VJ_STACK_APPEND = 20480,
+    VJ_STACK_COMMIT = 20480,
+    VJ_STACK_COLLECT = 19456,
+    VJ_STACK_FLUSH = 23552,
+    VJ_STACK_BUFFER = 21504,
+    VJ_STACK_STEP = 29696,
     VJ_STACK_MOST = 173056
 };
 

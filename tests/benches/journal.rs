@@ -278,9 +278,11 @@ fn half_differ((medium, state): &Journal) -> Vec<Record> {
     places.map(record).collect()
 }
 
-/// The time of one run on a fresh medium and state.
+/// The time of one run on a fresh medium and state, after a run on another copy: a
+/// copy of a large medium fills the caches, and that is not to be timed.
 fn time<C: Calls>(journal: &Journal, run: impl Fn(&mut Lent<C>)) -> Duration {
-    let mut lent = lend(journal);
+    let (mut before, mut lent) = (lend(journal), lend(journal));
+    run(&mut before);
     let start = Instant::now();
     run(&mut lent);
     start.elapsed()
@@ -429,6 +431,9 @@ fn everyday() {
     compare_tight!("24 openings, full", &journal, openings);
     compare_tight!("a commit, full", &journal, commit);
     compare_tight!("pick and collect", &collectible(grown(16, 15)), collection);
+    let blank = formatted(256);
+    compare_tight!("256 blocks, groups of 2 until 13", &blank, appends, 2);
+    compare_tight!("256 blocks, groups of 24 until 13", &blank, appends, 24);
     for (name, journal) in [("almost full", almost_full(256)), ("mostly clean", grown(256, 24))] {
         let name = format!("256 blocks, {name}");
         compare_tight!(&format!("{name}, a group of 2"), &journal, append, 2);

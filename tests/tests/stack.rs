@@ -1,5 +1,6 @@
 //! The deepest stack that each call of the proved library takes, on the worst
-//! media at hand: 256 blocks, full, in any order, 192 valves set.
+//! media at hand, 256 blocks, full, in any order, 192 valves set, with nothing
+//! pending and with an append, a commit, a collection or a flush.
 
 mod common;
 
@@ -9,7 +10,7 @@ use journal_tests::grown::{grown, shuffle_blocks, How};
 use journal_tests::proved::{self, VjState};
 use journal_tests::random::Random;
 use journal_tests::reader::{
-    self, Place, Record, BASE, BLOCK_BYTES, BLOCK_PAGES, GATHERED, MOVED, NODES,
+    self, Place, Record, BASE, BLOCK_BYTES, BLOCK_PAGES, GATHERED, MOVED, NODES, REMOVAL,
 };
 use journal_tests::run::{self, Journal, FAILED};
 use journal_tests::stack::{self, Call, Lent};
@@ -81,9 +82,11 @@ impl Table {
         self.note("vj_effect", &desk, last.map_or(0, |group| group as usize + 1));
     }
 
-    /// The readings of a state, and what can be begun with it.
-    fn state(&mut self, medium: &[u8], state: &VjState, buffer: &[u8; 256]) {
-        let mut desk = Desk::new(medium, state, 96);
+    /// The readings of a state, and what can be begun with it and some entries, or is
+    /// refused by what is pending in it.
+    fn state(&mut self, medium: &[u8], state: &VjState, entries: &[(u16, u64)]) {
+        let mut desk = Desk::new(medium, state, 0);
+        (desk.keys, desk.words) = lists(entries);
         self.note("vj_page", &desk, 4095);
         for name in ["vj_pick", "vj_survey", "vj_available", "vj_format", "vj_append", "vj_commit"]
         {
@@ -101,12 +104,16 @@ impl Table {
             self.note("vj_wanted", &desk, 0);
         }
         self.note("vj_settings", &Desk::new(medium, state, 192), 0);
-        self.note("vj_buffer", &Desk::new(medium, state, 16), 0);
-        desk.buffer = *buffer;
+        desk.buffer = common::holding(&[&entries[..16]]);
         self.note("vj_flush", &desk, 0);
         for valve in [state.index.keys[0], state.index.keys[191], 32767] {
             self.note("vj_opening", &desk, valve.into());
             self.note("vj_word", &desk, valve.into());
+        }
+        for (held, group) in [(15, &entries[15..16]), (0, &entries[..16])] {
+            desk.buffer = common::holding(&[&entries[..held]]);
+            (desk.keys, desk.words) = lists(group);
+            self.note("vj_buffer", &desk, 0);
         }
     }
 
@@ -133,6 +140,14 @@ fn records(medium: &[u8], state: &VjState, same: usize) -> Vec<Record> {
         Record { valve, word: if nth < same { word } else { !word } }
     };
     (0..192).map(record).collect()
+}
+
+/// Entries that 12 lets in only by entering them: of 192 valves the first is removed, a
+/// new one set in its place, and the others are set again.
+fn exchange(state: &VjState) -> Vec<(u16, u64)> {
+    let [first, others @ ..] = &state.index.keys;
+    let exchanged = [(REMOVAL | first, 0), (32767, 1)];
+    exchanged.into_iter().chain(others.iter().map(|&valve| (valve, 2))).take(96).collect()
 }
 
 /// Kinds and flags of pages that are repeated up to the last page: groups of one
@@ -216,29 +231,37 @@ fn the_deepest_stack_of_each_call() {
     media.iter().for_each(|medium| table.recovery(medium));
 
     let (medium, state) = crowded();
-    let held = common::holding(&[&valves(1, 16)]);
     let recovered = reader::recover(&medium).expect("recovery");
     for state in [&state, &recovered] {
-        table.state(&medium, &Proved::of(state), &held);
+        let idle = Proved::of(state);
         let begun = |call: &dyn Fn(&mut State)| {
             let mut begun = state.clone();
             call(&mut begun);
             Proved::of(&begun)
         };
-        let (keys, words) = lists(&valves(1, 96));
-        let append = begun(&|s| writer::append(&medium, s, &EMPTY, &keys, &words).expect("append"));
         let commit = begun(&|s| writer::commit(&medium, s, &EMPTY).expect("commit"));
-        let flush = begun(&|s| writer::flush(&medium, s, &held).expect("flush"));
         let most = (0..256).max_by_key(|&block| {
             let collectible = reader::collectible(&medium, state, block);
             usize::from(collectible) * (1 + reader::live_count(state, block))
         });
         let block = most.expect("a block");
         let collect = begun(&|s| writer::collect(&medium, s, &EMPTY, block).expect("collect"));
-        for begun in [append, commit, collect, Proved::of(&State::at_format(256))] {
+        for begun in [commit, collect, Proved::of(&State::at_format(256))] {
             table.steps(&medium, &begun, &EMPTY);
         }
-        table.steps(&medium, &flush, &held);
+        // Groups that are let in by counting, and that have to be entered.
+        for entries in [valves(1, 96), exchange(&idle)] {
+            let (keys, words) = lists(&entries);
+            let held = common::holding(&[&entries[..16]]);
+            let append =
+                begun(&|s| writer::append(&medium, s, &EMPTY, &keys, &words).expect("append"));
+            let flush = begun(&|s| writer::flush(&medium, s, &held).expect("flush"));
+            for state in [&idle, &append, &commit, &collect, &flush] {
+                table.state(&medium, state, &entries);
+            }
+            table.steps(&medium, &append, &EMPTY);
+            table.steps(&medium, &flush, &held);
+        }
     }
     assert_eq!(medium.len(), 256 * BLOCK_BYTES);
     // Journals that are full, where a commit or a collection is named.

@@ -14,7 +14,7 @@ use Rattle.lists.specs.declared.Cell.{Cell}
 use Rattle.lists.specs.Lists.{all, every}
 use Rattle.lists.specs.Needs.{need, Answer, gives}
 use Rattle.lists.specs.Cells.{Entry, Place}
-use Rattle.lists.proofs.Laws.{by-cases, true-false, every-at, tests, checked-pass, all-take, held-stop, below-all}
+use Rattle.lists.proofs.Laws.{by-cases, true-false, every-at, tests, checked-pass, all-take, held-stop, below-all, below-same}
 use Rattle.page.specs.Pages.{Page, View, clean, spoilt, whole, page, ends, isClean, pagesFor}
 use Rattle.flash.specs.Medium.{views, seen, whollyClean, programmed, erased}
 use Rattle.flash.proofs.Laws.{length-views, clean-in}
@@ -43,7 +43,7 @@ use Rattle.valve_log.proofs.Views.{clean-same}
 use Rattle.valve_log.proofs.Due.{Good, Programs, Erases, old-page, counted-collect}
 use Rattle.valve_log.proofs.Events.{Upheld, sized, there, block-there, erase-cut, due-good}
 use Rattle.valve_log.proofs.Point3.{reached-upheld}
-use Rattle.valve_log.proofs.Supply.{below-same, clean-elsewhere, spare-is, spare-other, spare-clean, Which, in-head, new-head, due-page, available-after}
+use Rattle.valve_log.proofs.Supply.{clean-elsewhere, spare-is, spare-other, spare-clean, Which, in-head, new-head, due-page, available-after}
 use Rattle.valve_log.proofs.Ready.{Left, Ready, fit-ready, sound-part, collects, due-outside, old-elsewhere}
 use Rattle.valve_log.proofs.Steady.{StateReady, reached-ready}
 use Rattle.valve_log.proofs.Once.{erased-recorded}

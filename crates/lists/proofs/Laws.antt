@@ -299,6 +299,12 @@ unfolding allBelow
 below-all zero f h = refl
 below-all (suc n) f h = and-both (below-all n f (λ i l. h i (omega arith))) (h n (omega arith))
 
+-- two tests that agree below a bound
+pub below-same : (n : ℕ) (f g : ℕ → Bool) → ((i : ℕ) → i < n → f i ≡ g i) → allBelow n f ≡ allBelow n g
+unfolding allBelow
+below-same zero f g h = refl
+below-same (suc n) f g h = rw (below-same n f g (λ i l. h i (omega arith)), h n (omega arith))
+
 pub below-at : (n : ℕ) (f : ℕ → Bool) → allBelow n f ≡ true → (i : ℕ) → i < n → f i ≡ true
 unfolding allBelow
 below-at zero f h i l = absurd (omega arith)

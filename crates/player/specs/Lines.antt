@@ -29,7 +29,6 @@ unfoldable pub refusalLines : {A : Type 0} → Answer A → List Line
 refusalLines (refused n) = Line.refusal n ∷ []
 refusalLines (gives x) = []
 
--- what is printed of a recovery of a medium with these pages
-unfoldable pub recoveryLines : List View → Answer Recovery → List Line
-recoveryLines v (refused n) = Line.refusal n ∷ []
-recoveryLines v (gives r) = summary (r .log) (words v (r .state .index))
+-- what is printed of an accepted recovery of a medium with these pages
+unfoldable pub recoveryLines : List View → Recovery → List Line
+recoveryLines v r = summary (r .log) (words v (r .state .index))

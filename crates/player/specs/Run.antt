@@ -66,7 +66,7 @@ begunFormat w (gives s) = moment (w .medium) (some s) fresh unchanged
 
 unfoldable pub playedRecovery : World → Answer Recovery → Turn
 playedRecovery w (refused n) = runEndsWith w n
-playedRecovery w (gives r) = runGoesOn (recovered w (gives r)) (recoveryLines (views (w .medium)) (gives r))
+playedRecovery w (gives r) = runGoesOn (recovered w (gives r)) (recoveryLines (views (w .medium)) r)
 
 -- what a step touches, as a cut names it: "page, or 256 + block"
 unfoldable pub nameOf : Step → ℕ

@@ -117,15 +117,15 @@ fn begun<'a>(
     ensures { λ r. ⌜ Begins s (operationAnswer (now (m .entry)) (meaning s) (now (b .entry)) code number (now (keys .entry)) (now (words .entry))) r ⌝ }
 {
     if code == trace::APPEND {
-        return begin::append(m, s, b, keys, words);
+        return journal_c::vj_append(m, s, b, keys, words);
     }
     if code == trace::COMMIT {
-        return begin::commit(m, s, b);
+        return journal_c::vj_commit(m, s, b);
     }
     if code == trace::COLLECT {
-        return begin::collect(m, s, b, number as usize);
+        return journal_c::vj_collect(m, s, b, number as usize);
     }
-    begin::flush(m, s, b)
+    journal_c::vj_flush(m, s, b)
 }
 
 // The same with the state last handed back; 9 where it is lost.
@@ -169,7 +169,7 @@ fn step(m: &mut [u8], b: &mut [u8], last: LastState) -> Reply
         return refused(9, false, last);
     }
     let s = last.state;
-    let r = advance::step(m, s, b);
+    let r = journal_c::vj_step(m, s, b);
     let t = r.state;
     answered(r.number, t)
 }
@@ -362,7 +362,7 @@ fn rehearse(copy: &mut [u8], b: &[u8], s: State) -> Stepped
 {
     let mut lent = [0u8; 256];
     overwrite(&mut lent, b);
-    advance::step(copy, s, &mut lent)
+    journal_c::vj_step(copy, s, &mut lent)
 }
 
 // A cut in the step due, which is found on a copy of the medium, in this room: whether there is one and the cut names what it touches, and then the

@@ -53,7 +53,7 @@ fn bases() {
 fn other_medium() {
     let mut m = [255u8; 16384];
     let t = trials::play(&mut m, &[FORMATTED]);
-    let b = begin::commit(&[255u8; 20480], t.state, &[255u8; 256]);
+    let b = journal_c::vj_commit(&[255u8; 20480], t.state, &[255u8; 256]);
     show::answer(b"7 state of 4 blocks, medium of 5: ", b.number);
 }
 

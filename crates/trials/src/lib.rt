@@ -325,7 +325,7 @@ pub fn play_with(m: &mut [u8], b: &mut [u8], calls: &[u64]) -> Trial
     ensures { λ r. ⌜ Played (now (m .entry)) (now (calls .entry)) r (now (m .exit)) ⌝ }
 {
     let mut t = nothing();
-    if 65536 < m.len() {
+    if player::BYTES < m.len() {
         return t;
     }
     if b.len() != 256 {

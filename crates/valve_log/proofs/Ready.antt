@@ -14,7 +14,7 @@ use Rattle.lists.specs.declared.Cell.{Cell}
 use Rattle.lists.specs.Lists.{all, every, isSome}
 use Rattle.lists.specs.Needs.{Answer, refused, gives, under}
 use Rattle.lists.specs.Cells.{Entry, Place}
-use Rattle.lists.proofs.Laws.{by-cases, and-both, true-false, every-at, all-head, all-tail, all-take}
+use Rattle.lists.proofs.Laws.{by-cases, and-both, true-false, below-same, every-at, all-head, all-tail, all-take}
 use Rattle.page.specs.Pages.{Page, View, spoilt, whole, page, isClean, pagesFor}
 use Rattle.page.specs.Buffer.{groupsPage}
 use Rattle.page.proofs.Berger.{Turned, kept, torn, blanked}
@@ -40,7 +40,7 @@ use Rattle.valve_log.proofs.Moves.{unique-live, live-in-block, moves-ou
 use Rattle.valve_log.proofs.Replay.{addressed-one}
 use Rattle.valve_log.proofs.Coupling.{Alive, alive-of, Coupled}
 use Rattle.valve_log.proofs.Lent.{Lent, with-fit}
-use Rattle.valve_log.proofs.Supply.{below-same, clean-elsewhere, HeadReady, Which, in-head, new-head, due-page, available-after, ready-after}
+use Rattle.valve_log.proofs.Supply.{clean-elsewhere, HeadReady, Which, in-head, new-head, due-page, available-after, ready-after}
 
 -- pages enough for what is pending; formatting is never pending there
 unfoldable pub Left : List View → Head → List Place → Pending → Type 0

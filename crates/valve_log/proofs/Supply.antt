@@ -9,8 +9,8 @@ use native.Mathlib.Decide.{decLt, ℕ-discrete}
 use lib.Dec.{ltb, eqb}
 use lib.ListN.{set}
 use borrow.Author.Tests.{ltb-true, lt-ltb, le-ltb, eqb-false, ne-eqb, not-true}
-use Rattle.lists.specs.Lists.{allBelow, oneIf, countBelow}
-use Rattle.lists.proofs.Laws.{by-cases, and-l, and-r, true-false, below-at}
+use Rattle.lists.specs.Lists.{oneIf, countBelow}
+use Rattle.lists.proofs.Laws.{by-cases, and-l, and-r, true-false, below-same, below-at}
 use Rattle.page.specs.Pages.{View, isClean}
 use Rattle.flash.specs.Medium.{seen, whollyClean}
 use Rattle.flash.proofs.Steps.{seen-set-other}
@@ -18,12 +18,7 @@ use Rattle.blocks.specs.declared.Head.{Head}
 use Rattle.blocks.specs.Blocks.{spare, available, wrap, firstClean, newHead, pageDue}
 use Rattle.step.specs.Step.{headAfter}
 
--- ---- scans that agree
-
-pub below-same : (n : ℕ) (f g : ℕ → Bool) → ((i : ℕ) → i < n → f i ≡ g i) → allBelow n f ≡ allBelow n g
-unfolding allBelow
-below-same zero f g h = refl
-below-same (suc n) f g h = rw (below-same n f g (λ i l. h i (omega arith)), h n (omega arith))
+-- ---- counts
 
 -- g holds where f does, but perhaps at x
 count-but-one : (n : ℕ) (f g : ℕ → Bool) (x : ℕ) → ((i : ℕ) → i < n → f i ≡ true → (i ≡ x) ⊎ (g i ≡ true)) → countBelow n f ≤ countBelow n g + oneIf (ltb x n)

@@ -2,10 +2,10 @@
 use mathlib.Core.Path.{_≡_}
 use mathlib.Core.Bool.{Bool, true, not}
 use mathlib.Core.List.{List}
-use Prim.Native.Nat.{ℕ, _/_, _%_, _^_, _≤_, _<_}
+use Prim.Native.Nat.{ℕ, _+_, _/_, _%_, _^_, _≤_, _<_}
 use lib.Dec.{eqb}
 use lib.ListN.{length, getD}
-use Rattle.lists.specs.Lists.{countBelow}
+use Rattle.lists.specs.Lists.{allBelow, countBelow}
 use Rattle.arrays.specs.Arrays.{Ascending}
 
 -- bit j of a word is 1
@@ -15,6 +15,10 @@ bitSet w j = eqb (w / 2 ^ j % 2) 1
 -- v is in the set: bit v % 64 of word v / 64 is 1
 unfoldable pub member : List ℕ → ℕ → Bool
 member ws v = bitSet (getD ws (v / 64) 0) (v % 64)
+
+-- eight words, from word i on, are all 0
+unfoldable pub eightZero : List ℕ → ℕ → Bool
+eightZero ws i = allBelow 8 (λ j. eqb (getD ws (i + j) 0) 0)
 
 -- us is the set ws with v taken in or out, whichever it was not
 pub record Flipped (v : ℕ) (ws us : List ℕ) : Type 0 where

@@ -1,6 +1,6 @@
 -- The answer from the notes of a walk over the records, as the code has it.
 use mathlib.Core.Path.{_≡_}
-use mathlib.Core.Bool.{true}
+use mathlib.Core.Bool.{Bool, true}
 use mathlib.Core.Option.{Option}
 use mathlib.Core.List.{List, [], _∷_}
 use Prim.Native.Nat.{ℕ, _≤_}
@@ -23,13 +23,13 @@ notedSettings n = pairs (n .count) (n .keys) (n .vals)
 pub record Orderly (n : Notes) : Type 0 where
   pub so : n .rises ≡ true → n .count ≤ 192 → valvesOk (notedSettings n) ≡ true
 
--- 19 and 20
-abbrev pub recordNeeds : Notes → List Need
-recordNeeds n = need 19 (n .rises) ∷ need 20 (leb (n .count) 192) ∷ []
+-- 19 and 20, where the valves of so many records rise as they must or do not
+abbrev pub recordNeeds : Bool → ℕ → List Need
+recordNeeds rises count = need 19 rises ∷ need 20 (leb count 192) ∷ []
 
 -- what follows 20, for the places of an index and the wanted settings: 6 and 11, then the answer
 unfoldable pub afterRecords : List View → List Place → List Setting → Answer (Option (List Entry))
 afterRecords v l w = checked (need 6 (sound v l) ∷ need 11 (entriesAllowed (groupFor (words v l) w)) ∷ []) (wantedFor (words v l) w)
 
 unfoldable pub wantedBy : ℕ → List View → Held → Notes → Answer (Option (List Entry))
-wantedBy n v s notes = under (stateNeeds n v s) (under (recordNeeds notes) (afterRecords v (s .index) (notedSettings notes)))
+wantedBy n v s notes = under (stateNeeds n v s) (under (recordNeeds (notes .rises) (notes .count)) (afterRecords v (s .index) (notedSettings notes)))

@@ -5,9 +5,10 @@ ghost use Prim.Native.Nat.{_≤_};
 ghost use lib.ListN.{length};
 ghost use Rattle.lists.specs.Lists.{all};
 ghost use Rattle.lists.specs.Needs.{refused, refusalOf};
-ghost use Rattle.lists.specs.Cells.{listed};
+ghost use Rattle.lists.specs.Cells.{pairs};
 ghost use Rattle.flash.specs.Medium.{views};
 ghost use Rattle.index.specs.Index.{rising};
+ghost use Rattle.index.specs.Lent.{Lent};
 ghost use Rattle.state.specs.State.{meaning};
 ghost use Rattle.wanted_group.specs.Group.{isValve};
 ghost use Rattle.wanted.specs.Wanted.{reply, replyBy, AnswersWanted};
@@ -38,33 +39,41 @@ fn refused(number: u8) -> WantedAnswer
     }
 }
 
-// 19 or 20 where the records refuse, else 0.
-fn record_refusal(n: Notes) -> u8
-    ensures { λ r. ⌜ r ≡ refusalOf (recordNeeds n) ⌝ }
+// 19 where the valves of so many records do not rise as they must, 20 where the records are too many, else 0.
+fn record_refusal(rises: bool, count: usize) -> u8
+    ensures { λ r. ⌜ r ≡ refusalOf (recordNeeds rises count) ⌝ }
 {
-    if !n.rises {
+    if !rises {
         return 19;
     }
-    if 192 < n.count {
+    if 192 < count {
         return 20;
     }
     0
 }
 
-// The group that leads from the settings of an index to the wanted ones, or 6, or 11.
-fn from_index(m: &[u8], index: Cells, w: Cells) -> WantedAnswer
-    requires { ⌜ (index .count ≤ 192) × (rising (listed index) ≡ true) × (all isValve (listed index) ≡ true) × (w .count ≤ 192) × (rising (listed w) ≡ true) × (all isValve (listed w) ≡ true) ⌝ }
-    ensures { λ r. ⌜ replyBy r ≡ reply (afterRecords (views (now (m .entry))) (listed index) (listed w)) ⌝ }
+// The group that leads from the settings of an index, n places in two lent lists, to the w wanted ones in two others, or 6, or 11.
+fn from_index<'a, 'b>(
+    m: &[u8],
+    keys: &'a [u16],
+    vals: &'a [u64],
+    n: usize,
+    wkeys: &'b [u16],
+    wvals: &'b [u64],
+    w: usize,
+) -> WantedAnswer
+    requires { ⌜ (n ≤ 192) × (length (now keys) ≡ 192) × (length (now vals) ≡ 192) × (rising (pairs n (now keys) (now vals)) ≡ true) × (all isValve (pairs n (now keys) (now vals)) ≡ true)
+        × Lent w (now wkeys) (now wvals) × (all isValve (pairs w (now wkeys) (now wvals)) ≡ true) ⌝ }
+    ensures { λ r. ⌜ replyBy r ≡ reply (afterRecords (views (now (m .entry))) (pairs n (now (keys .entry)) (now (vals .entry))) (pairs w (now (wkeys .entry)) (now (wvals .entry)))) ⌝ }
 {
-    let present = settings::present(m, index);
-    if !present.sound {
+    let mut words = [0u64; 192];
+    if !settings::present(m, keys, vals, n, &mut words) {
         return refused(6);
     }
-    let settings = present.cells;
-    if !wanted_group::entries_allowed(settings, w) {
+    if !wanted_group::entries_allowed(keys, &words, n, wkeys, wvals, w) {
         return refused(11);
     }
-    let limited = wanted_group::group(settings, w);
+    let limited = wanted_group::group(keys, &words, n, wkeys, wvals, w);
     let group = limited.cells;
     WantedAnswer {
         number: 0,
@@ -78,23 +87,34 @@ fn answer(m: &[u8], s: State, n: Notes) -> WantedAnswer
     requires { ⌜ Orderly n ⌝ }
     ensures { λ r. ⌜ replyBy r ≡ reply (wantedBy (length (now (m .entry))) (views (now (m .entry))) (meaning s) n) ⌝ }
 {
-    let number = state::state_refusal(m, s);
+    let number = state::parts_refusal(
+        m,
+        s.head,
+        &s.index.keys,
+        &s.index.vals,
+        s.index.count,
+        s.operation,
+        s.progress,
+        &s.group.keys,
+        &s.group.vals,
+        s.group.count,
+    );
     if number != 0 {
         return refused(number);
     }
-    let other = record_refusal(n);
+    let other = record_refusal(n.rises, n.count);
     if other != 0 {
         return refused(other);
     }
-    let keys = n.keys;
-    let vals = n.vals;
-    let w = Cells {
-        count: n.count,
-        keys: keys,
-        vals: vals,
-    };
-    let index = s.index;
-    from_index(m, index, w)
+    from_index(
+        m,
+        &s.index.keys,
+        &s.index.vals,
+        s.index.count,
+        &n.keys,
+        &n.vals,
+        n.count,
+    )
 }
 
 // The group that leads from the present settings to the wanted records.

@@ -1,6 +1,6 @@
 -- Condition 12 accepts the group.
 use mathlib.Core.Path.{_≡_, refl, sym, ap, _∙_}
-use mathlib.Core.Bool.{true, false, cond}
+use mathlib.Core.Bool.{true, cond}
 use mathlib.Core.Option.{Option, none, some}
 use mathlib.Core.List.{List, [], _∷_}
 use Prim.Native.Nat.{ℕ, suc, _+_, _-_, _≤_}
@@ -9,58 +9,13 @@ use lib.ListN.{length}
 use borrow.Author.Tests.{le-leb, le-ltb}
 use Rattle.lists.specs.declared.Cell.{Cell}
 use Rattle.lists.specs.Lists.{all, isSome}
-use Rattle.lists.proofs.Laws.{by-cases, and-both, all-head, all-tail, true-false, by-eq}
+use Rattle.lists.proofs.Laws.{by-cases, and-both, all-head, all-tail, by-eq}
 use Rattle.index.specs.Index.{lookup, risingFrom, rising, assign, assignAll, within}
 use Rattle.index.proofs.Rising.{rising-tail, assign-rising}
-use Rattle.index.proofs.Assigned.{lookup-below}
 use Rattle.wanted_group.specs.Group.{isValve, removalsFor, settingsFor, groupFor}
 use Rattle.index.proofs.Entries.{remove-few, all-rising, within-append}
-use Rattle.index.proofs.Lookup.{valve, three, lookup-none, lookup-here, lookup-past, lookup-before, lookup-other, assign-else}
+use Rattle.index.proofs.Lookup.{valve, lookup-other, assign-else, Part, here-true, part-length}
 use Rattle.wanted_group.proofs.Leads.{gone, told-removals, lookup-all, removal, setting-valve, isWanted, stands, removals-kept, removals-gone, settings-same, settings-new}
-
--- ---- a rising list whose valves are all valves of another is not longer
-
-abbrev Part : List Cell → List Cell → Type 0
-Part l m = (k : ℕ) → isSome (lookup k l) ≡ true → isSome (lookup k m) ≡ true
-
-some-true : (x : ℕ) → isSome (some x) ≡ true
-unfolding isSome
-some-true x = refl
-
-none-false : isSome {A = ℕ} none ≡ false
-unfolding isSome
-none-false = refl
-
-here-true : (k : ℕ) (x : Cell) (l : List Cell) → k ≡ x .key → isSome (lookup k (x ∷ l)) ≡ true
-here-true k x l h = ap isSome (lookup-here k x l h) ∙ some-true (x .val)
-
--- no word under this key
-absent : {P : Type 0} (k : ℕ) (l : List Cell) → isSome (lookup k l) ≡ true → lookup k l ≡ none → P
-absent k l h e = true-false h (ap isSome e ∙ none-false)
-
-part-length : (m l : List Cell) (p q : ℕ) → risingFrom p l ≡ true → risingFrom q m ≡ true → Part l m → length l ≤ length m
-part-length [] [] p q r s h = omega arith
-part-length [] (x ∷ xs) p q r s h = absent (x .key) [] (h (x .key) (here-true (x .key) x xs refl)) (lookup-none (x .key))
-part-length (y ∷ ys) [] p q r s h = omega arith
-part-length (y ∷ ys) (x ∷ xs) p q r s h =
-    let tail = rising-tail p x xs r in
-    let tail₂ = rising-tail q y ys s in
-    three (x .key) (y .key)
-    (λ g. absent (x .key) (y ∷ ys) (h (x .key) (here-true (x .key) x xs refl)) (lookup-before (x .key) y ys g))
-    (λ g.
-    let z = part-length ys xs (suc (x .key)) (suc (y .key)) tail tail₂
-    (λ k e. three k (x .key)
-    (λ c. absent k xs e (lookup-below k (suc (x .key)) xs (omega (arith, c)) tail))
-    (λ c. absent k xs e (lookup-below k (suc (x .key)) xs (omega (arith, c)) tail))
-    (λ c. ap isSome (sym (lookup-past k y ys (omega (arith, c, g)))) ∙ h k (ap isSome (lookup-past k x xs c) ∙ e))) in
-    omega (arith, z))
-    (λ g.
-    let z = part-length ys (x ∷ xs) p (suc (y .key)) r tail₂
-    (λ k e. three k (x .key)
-    (λ c. absent k (x ∷ xs) e (lookup-before k x xs c))
-    (λ c. ap isSome (sym (lookup-past k y ys (omega (arith, c, g)))) ∙ h k e)
-    (λ c. ap isSome (sym (lookup-past k y ys (omega (arith, c, g)))) ∙ h k e)) in
-    omega (arith, z))
 
 -- ---- 12: removals only shorten, and while settings are made every valve set is a wanted one
 

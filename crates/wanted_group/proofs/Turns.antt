@@ -75,39 +75,39 @@ fill-end : (all rest : List Cell) (n i : ℕ) (ks vs : List ℕ) → rest ≡ []
 fill-end all rest n i ks vs e h g =
     record { few = h; so = sym (append-nil (pairs n ks vs)) ∙ ap (λ (t : List Cell). pairs n ks vs ++ t) (sym e) ∙ g .so }
 
--- place i of a list of cells
-abbrev place : Cells → ℕ → Cell
-place c i = cell (getD (c .keys) i 0) (getD (c .vals) i 0)
+-- place i of the cells in two lists
+abbrev place : List ℕ → List ℕ → ℕ → Cell
+place xs ys i = cell (getD xs i 0) (getD ys i 0)
 
 -- ---- removals
 
-abbrev toRemove : Cells → List Cell → ℕ → List Cell
-toRemove s w i = removalsFor (drop i (listed s)) w
+abbrev toRemove : ℕ → List ℕ → List ℕ → List Cell → ℕ → List Cell
+toRemove c xs ys w i = removalsFor (drop i (pairs c xs ys)) w
 
-pub record Removing (s : Cells) (w : List Cell) (n i : ℕ) (ks vs : List ℕ) : Type 0 where
-  pub far : i ≤ s .count
-  pub fill : Filling (removalsFor (listed s) w) (toRemove s w i) n i ks vs
+pub record Removing (c : ℕ) (xs ys : List ℕ) (w : List Cell) (n i : ℕ) (ks vs : List ℕ) : Type 0 where
+  pub far : i ≤ c
+  pub fill : Filling (removalsFor (pairs c xs ys) w) (toRemove c xs ys w i) n i ks vs
 
-pub removing-start : (s : Cells) (w : List Cell) → Removing s w 0 0 (replicate 192 0) (replicate 192 0)
-removing-start s w = record { far = omega arith; fill = fill-start (removalsFor (listed s) w) }
+pub removing-start : (c : ℕ) (xs ys : List ℕ) (w : List Cell) → Removing c xs ys w 0 0 (replicate 192 0) (replicate 192 0)
+removing-start c xs ys w = record { far = omega arith; fill = fill-start (removalsFor (pairs c xs ys) w) }
 
-module _ (s : Cells) (w : List Cell) (n i : ℕ) (ks vs : List ℕ) (h : i < s .count) (few : s .count ≤ 192) where
-  removing-cons : toRemove s w i ≡ removalsFor (place s i ∷ drop (i + 1) (listed s)) w
-  removing-cons = ap (λ (x : List Cell). removalsFor x w) (pairs-cons (s .count) (s .keys) (s .vals) i h)
+module _ (c : ℕ) (xs ys : List ℕ) (w : List Cell) (n i : ℕ) (ks vs : List ℕ) (h : i < c) (few : c ≤ 192) where
+  removing-cons : toRemove c xs ys w i ≡ removalsFor (place xs ys i ∷ drop (i + 1) (pairs c xs ys)) w
+  removing-cons = ap (λ (x : List Cell). removalsFor x w) (pairs-cons c xs ys i h)
 
-  module _ (b : Bool) (e : b ≡ isSome (lookup (getD (s .keys) i 0) w)) (g : Removing s w n i ks vs) where
-    pub removing-skip : b ≡ true → Removing s w n (i + 1) ks vs
+  module _ (b : Bool) (e : b ≡ isSome (lookup (getD xs i 0) w)) (g : Removing c xs ys w n i ks vs) where
+    pub removing-skip : b ≡ true → Removing c xs ys w n (i + 1) ks vs
     removing-skip t =
-        let same-rest = removing-cons ∙ removals-kept (place s i) (drop (i + 1) (listed s)) w (sym e ∙ t) in
-        record { far = omega (arith, h); fill = fill-skip (removalsFor (listed s) w) (toRemove s w i) (toRemove s w (i + 1)) n i ks vs same-rest (g .fill) }
+        let same-rest = removing-cons ∙ removals-kept (place xs ys i) (drop (i + 1) (pairs c xs ys)) w (sym e ∙ t) in
+        record { far = omega (arith, h); fill = fill-skip (removalsFor (pairs c xs ys) w) (toRemove c xs ys w i) (toRemove c xs ys w (i + 1)) n i ks vs same-rest (g .fill) }
 
-    pub removing-push : b ≡ false → Removing s w (n + 1) (i + 1) (set ks n (getD (s .keys) i 0 + 32768)) (set vs n 0)
+    pub removing-push : b ≡ false → Removing c xs ys w (n + 1) (i + 1) (set ks n (getD xs i 0 + 32768)) (set vs n 0)
     removing-push t =
-        let one-more = removing-cons ∙ removals-gone (place s i) (drop (i + 1) (listed s)) w (sym e ∙ t) in
+        let one-more = removing-cons ∙ removals-gone (place xs ys i) (drop (i + 1) (pairs c xs ys)) w (sym e ∙ t) in
         record {
           far = omega (arith, h);
           fill =
-              fill-push (removalsFor (listed s) w) (toRemove s w i) (toRemove s w (i + 1)) n i ks vs (getD (s .keys) i 0 + 32768) 0
+              fill-push (removalsFor (pairs c xs ys) w) (toRemove c xs ys w i) (toRemove c xs ys w (i + 1)) n i ks vs (getD xs i 0 + 32768) 0
               (omega (arith, h, few)) one-more (g .fill);
         }
 
@@ -115,51 +115,51 @@ no-removals : (w : List Cell) → removalsFor [] w ≡ []
 unfolding removalsFor
 no-removals w = refl
 
-pub removing-end : (s : Cells) (w : List Cell) (n i : ℕ) (ks vs : List ℕ) → s .count ≤ i → s .count ≤ 192 → Removing s w n i ks vs
-    → Kept n (pairs n ks vs) (removalsFor (listed s) w)
-removing-end s w n i ks vs h few g =
-    let over = ap (λ (x : List Cell). removalsFor x w) (pairs-past (s .count) (s .keys) (s .vals) i h) ∙ no-removals w in
+pub removing-end : (c : ℕ) (xs ys : List ℕ) (w : List Cell) (n i : ℕ) (ks vs : List ℕ) → c ≤ i → c ≤ 192 → Removing c xs ys w n i ks vs
+    → Kept n (pairs n ks vs) (removalsFor (pairs c xs ys) w)
+removing-end c xs ys w n i ks vs h few g =
+    let over = ap (λ (x : List Cell). removalsFor x w) (pairs-past c xs ys i h) ∙ no-removals w in
     let z = g .fill .few in
     let y = g .far in
-    fill-end (removalsFor (listed s) w) (toRemove s w i) n i ks vs over (omega (arith, z, y, few)) (g .fill)
+    fill-end (removalsFor (pairs c xs ys) w) (toRemove c xs ys w i) n i ks vs over (omega (arith, z, y, few)) (g .fill)
 
--- a valve of s is below 32768, so that the key that removes it has 16 bits
-pub key-low : (s : Cells) (i : ℕ) → i < s .count → all isValve (listed s) ≡ true → getD (s .keys) i 0 < 32768
+-- a valve that is set is below 32768, so that the key that removes it has 16 bits
+pub key-low : (c : ℕ) (xs ys : List ℕ) (i : ℕ) → i < c → all isValve (pairs c xs ys) ≡ true → getD xs i 0 < 32768
 unfolding isValve
-key-low s i h a =
-    ltb-true (getD (s .keys) i 0) 32768
-    (all-head isValve (place s i) (drop (i + 1) (listed s))
-    (ap (all isValve) (sym (pairs-cons (s .count) (s .keys) (s .vals) i h)) ∙ all-drop isValve i (listed s) a))
+key-low c xs ys i h a =
+    ltb-true (getD xs i 0) 32768
+    (all-head isValve (place xs ys i) (drop (i + 1) (pairs c xs ys))
+    (ap (all isValve) (sym (pairs-cons c xs ys i h)) ∙ all-drop isValve i (pairs c xs ys) a))
 
 -- ---- settings
 
-abbrev toSet : List Cell → Cells → ℕ → List Cell
-toSet s w i = settingsFor s (drop i (listed w))
+abbrev toSet : List Cell → ℕ → List ℕ → List ℕ → ℕ → List Cell
+toSet s c xs ys i = settingsFor s (drop i (pairs c xs ys))
 
-pub record Setting (s : List Cell) (w : Cells) (n i : ℕ) (ks vs : List ℕ) : Type 0 where
-  pub far : i ≤ w .count
-  pub fill : Filling (settingsFor s (listed w)) (toSet s w i) n i ks vs
+pub record Setting (s : List Cell) (c : ℕ) (xs ys : List ℕ) (n i : ℕ) (ks vs : List ℕ) : Type 0 where
+  pub far : i ≤ c
+  pub fill : Filling (settingsFor s (pairs c xs ys)) (toSet s c xs ys i) n i ks vs
 
-pub setting-start : (s : List Cell) (w : Cells) → Setting s w 0 0 (replicate 192 0) (replicate 192 0)
-setting-start s w = record { far = omega arith; fill = fill-start (settingsFor s (listed w)) }
+pub setting-start : (s : List Cell) (c : ℕ) (xs ys : List ℕ) → Setting s c xs ys 0 0 (replicate 192 0) (replicate 192 0)
+setting-start s c xs ys = record { far = omega arith; fill = fill-start (settingsFor s (pairs c xs ys)) }
 
-module _ (s : List Cell) (w : Cells) (n i : ℕ) (ks vs : List ℕ) (h : i < w .count) (few : w .count ≤ 192) where
-  setting-cons : toSet s w i ≡ settingsFor s (place w i ∷ drop (i + 1) (listed w))
-  setting-cons = ap (settingsFor s) (pairs-cons (w .count) (w .keys) (w .vals) i h)
+module _ (s : List Cell) (c : ℕ) (xs ys : List ℕ) (n i : ℕ) (ks vs : List ℕ) (h : i < c) (few : c ≤ 192) where
+  setting-cons : toSet s c xs ys i ≡ settingsFor s (place xs ys i ∷ drop (i + 1) (pairs c xs ys))
+  setting-cons = ap (settingsFor s) (pairs-cons c xs ys i h)
 
-  module _ (b : Bool) (e : b ≡ same (lookup (getD (w .keys) i 0) s) (some (getD (w .vals) i 0))) (g : Setting s w n i ks vs) where
-    pub setting-skip : b ≡ true → Setting s w n (i + 1) ks vs
+  module _ (b : Bool) (e : b ≡ same (lookup (getD xs i 0) s) (some (getD ys i 0))) (g : Setting s c xs ys n i ks vs) where
+    pub setting-skip : b ≡ true → Setting s c xs ys n (i + 1) ks vs
     setting-skip t =
-        let same-rest = setting-cons ∙ settings-same s (place w i) (drop (i + 1) (listed w)) (sym e ∙ t) in
-        record { far = omega (arith, h); fill = fill-skip (settingsFor s (listed w)) (toSet s w i) (toSet s w (i + 1)) n i ks vs same-rest (g .fill) }
+        let same-rest = setting-cons ∙ settings-same s (place xs ys i) (drop (i + 1) (pairs c xs ys)) (sym e ∙ t) in
+        record { far = omega (arith, h); fill = fill-skip (settingsFor s (pairs c xs ys)) (toSet s c xs ys i) (toSet s c xs ys (i + 1)) n i ks vs same-rest (g .fill) }
 
-    pub setting-push : b ≡ false → Setting s w (n + 1) (i + 1) (set ks n (getD (w .keys) i 0)) (set vs n (getD (w .vals) i 0))
+    pub setting-push : b ≡ false → Setting s c xs ys (n + 1) (i + 1) (set ks n (getD xs i 0)) (set vs n (getD ys i 0))
     setting-push t =
-        let one-more = setting-cons ∙ settings-new s (place w i) (drop (i + 1) (listed w)) (sym e ∙ t) in
+        let one-more = setting-cons ∙ settings-new s (place xs ys i) (drop (i + 1) (pairs c xs ys)) (sym e ∙ t) in
         record {
           far = omega (arith, h);
           fill =
-              fill-push (settingsFor s (listed w)) (toSet s w i) (toSet s w (i + 1)) n i ks vs (getD (w .keys) i 0) (getD (w .vals) i 0)
+              fill-push (settingsFor s (pairs c xs ys)) (toSet s c xs ys i) (toSet s c xs ys (i + 1)) n i ks vs (getD xs i 0) (getD ys i 0)
               (omega (arith, h, few)) one-more (g .fill);
         }
 
@@ -167,13 +167,13 @@ no-settings : (s : List Cell) → settingsFor s [] ≡ []
 unfolding settingsFor
 no-settings s = refl
 
-pub setting-end : (s : List Cell) (w : Cells) (n i : ℕ) (ks vs : List ℕ) → w .count ≤ i → w .count ≤ 192 → Setting s w n i ks vs
-    → Kept n (pairs n ks vs) (settingsFor s (listed w))
-setting-end s w n i ks vs h few g =
-    let over = ap (settingsFor s) (pairs-past (w .count) (w .keys) (w .vals) i h) ∙ no-settings s in
+pub setting-end : (s : List Cell) (c : ℕ) (xs ys : List ℕ) (n i : ℕ) (ks vs : List ℕ) → c ≤ i → c ≤ 192 → Setting s c xs ys n i ks vs
+    → Kept n (pairs n ks vs) (settingsFor s (pairs c xs ys))
+setting-end s c xs ys n i ks vs h few g =
+    let over = ap (settingsFor s) (pairs-past c xs ys i h) ∙ no-settings s in
     let z = g .fill .few in
     let y = g .far in
-    fill-end (settingsFor s (listed w)) (toSet s w i) n i ks vs over (omega (arith, z, y, few)) (g .fill)
+    fill-end (settingsFor s (pairs c xs ys)) (toSet s c xs ys i) n i ks vs over (omega (arith, z, y, few)) (g .fill)
 
 -- ---- one list after another
 

@@ -6,7 +6,7 @@ ghost use mathlib.Core.List.{_++_};
 ghost use Prim.Native.Nat.{_≤_};
 ghost use Rattle.lists.specs.Lists.{isSome, all};
 ghost use Rattle.lists.specs.Cells.{listed, pairs};
-ghost use Rattle.index.specs.Index.{lookup, rising, entriesAllowed};
+ghost use Rattle.index.specs.Index.{lookup, entriesAllowed};
 ghost use Rattle.index.specs.Search.{Kept};
 ghost use Rattle.index.specs.Lent.{Lent};
 ghost use Rattle.wanted_group.specs.Group.{isValve, same, removalsFor, settingsFor, groupFor};
@@ -38,19 +38,25 @@ fn is_at<'a>(keys: &'a [u16], vals: &'a [u64], n: usize, valve: u16, word: u64) 
     }
 }
 
-// The removals: of each valve of s that is not among the n wanted ones.
-fn removals<'a>(s: Cells, keys: &'a [u16], vals: &'a [u64], n: usize) -> Cells
-    requires { ⌜ (s .count ≤ 192) × (all isValve (listed s) ≡ true) × Lent n (now keys) (now vals) ⌝ }
-    ensures { λ r. ⌜ Kept (r .count) (listed r) (removalsFor (listed s) (pairs n (now (keys .entry)) (now (vals .entry)))) ⌝ }
+// The removals: of each of the n valves that are set and not among the w wanted ones.
+fn removals<'a, 'b>(
+    keys: &'a [u16],
+    vals: &'a [u64],
+    n: usize,
+    wkeys: &'b [u16],
+    wvals: &'b [u64],
+    w: usize,
+) -> Cells
+    requires { ⌜ Lent n (now keys) (now vals) × Lent w (now wkeys) (now wvals) × (all isValve (pairs n (now keys) (now vals)) ≡ true) ⌝ }
+    ensures { λ r. ⌜ Kept (r .count) (listed r) (removalsFor (pairs n (now (keys .entry)) (now (vals .entry))) (pairs w (now (wkeys .entry)) (now (wvals .entry)))) ⌝ }
 {
     let mut out_keys = [0u16; 192];
     let mut out_vals = [0u64; 192];
-    let count = s.count;
     let mut k: usize = 0;
     let mut i: usize = 0;
-    while i < count {
-        let key = s.keys[i];
-        if is_set(keys, vals, n, key) {
+    while i < n {
+        let key = keys[i];
+        if is_set(wkeys, wvals, w, key) {
             i += 1;
             continue;
         }
@@ -66,19 +72,25 @@ fn removals<'a>(s: Cells, keys: &'a [u16], vals: &'a [u64], n: usize) -> Cells
     }
 }
 
-// The settings: those of w that do not stand so among the n present ones.
-fn settings<'a>(keys: &'a [u16], vals: &'a [u64], n: usize, w: Cells) -> Cells
-    requires { ⌜ (w .count ≤ 192) × Lent n (now keys) (now vals) ⌝ }
-    ensures { λ r. ⌜ Kept (r .count) (listed r) (settingsFor (pairs n (now (keys .entry)) (now (vals .entry))) (listed w)) ⌝ }
+// The settings: those of the w wanted ones that do not stand so among the n present ones.
+fn settings<'a, 'b>(
+    keys: &'a [u16],
+    vals: &'a [u64],
+    n: usize,
+    wkeys: &'b [u16],
+    wvals: &'b [u64],
+    w: usize,
+) -> Cells
+    requires { ⌜ Lent n (now keys) (now vals) × Lent w (now wkeys) (now wvals) ⌝ }
+    ensures { λ r. ⌜ Kept (r .count) (listed r) (settingsFor (pairs n (now (keys .entry)) (now (vals .entry))) (pairs w (now (wkeys .entry)) (now (wvals .entry)))) ⌝ }
 {
     let mut out_keys = [0u16; 192];
     let mut out_vals = [0u64; 192];
-    let count = w.count;
     let mut k: usize = 0;
     let mut i: usize = 0;
-    while i < count {
-        let key = w.keys[i];
-        let word = w.vals[i];
+    while i < w {
+        let key = wkeys[i];
+        let word = wvals[i];
         if is_at(keys, vals, n, key, word) {
             i += 1;
             continue;
@@ -135,24 +147,38 @@ fn appended(a: Cells, b: Cells) -> Limited
     }
 }
 
-// The fewest entries that make the settings w of the settings s, removals first.
-pub fn group(s: Cells, w: Cells) -> Limited
-    requires { ⌜ (s .count ≤ 192) × (w .count ≤ 192) × (rising (listed s) ≡ true) × (rising (listed w) ≡ true) × (all isValve (listed s) ≡ true) ⌝ }
-    ensures { λ r. ⌜ Kept (r .cells .count) (limitedBy r) (limited (groupFor (listed s) (listed w))) ⌝ }
+// The fewest entries that make the w wanted settings of the n present ones, removals first.
+pub fn group<'a, 'b>(
+    keys: &'a [u16],
+    vals: &'a [u64],
+    n: usize,
+    wkeys: &'b [u16],
+    wvals: &'b [u64],
+    w: usize,
+) -> Limited
+    requires { ⌜ Lent n (now keys) (now vals) × Lent w (now wkeys) (now wvals) × (all isValve (pairs n (now keys) (now vals)) ≡ true) ⌝ }
+    ensures { λ r. ⌜ Kept (r .cells .count) (limitedBy r) (limited (groupFor (pairs n (now (keys .entry)) (now (vals .entry))) (pairs w (now (wkeys .entry)) (now (wvals .entry))))) ⌝ }
 {
-    let a = removals(s, &w.keys, &w.vals, w.count);
-    let b = settings(&s.keys, &s.vals, s.count, w);
+    let a = removals(keys, vals, n, wkeys, wvals, w);
+    let b = settings(keys, vals, n, wkeys, wvals, w);
     appended(a, b)
 }
 
 // Whether condition 11 takes the group, all of it, also where it has more than 96 entries: valve 0 is not wanted, or stands so already.
-pub fn entries_allowed(s: Cells, w: Cells) -> bool
-    requires { ⌜ (s .count ≤ 192) × (w .count ≤ 192) × (rising (listed s) ≡ true) × (rising (listed w) ≡ true) × (all isValve (listed w) ≡ true) ⌝ }
-    ensures { λ r. ⌜ r ≡ entriesAllowed (groupFor (listed s) (listed w)) ⌝ }
+pub fn entries_allowed<'a, 'b>(
+    keys: &'a [u16],
+    vals: &'a [u64],
+    n: usize,
+    wkeys: &'b [u16],
+    wvals: &'b [u64],
+    w: usize,
+) -> bool
+    requires { ⌜ Lent n (now keys) (now vals) × Lent w (now wkeys) (now wvals) × (all isValve (pairs w (now wkeys) (now wvals)) ≡ true) ⌝ }
+    ensures { λ r. ⌜ r ≡ entriesAllowed (groupFor (pairs n (now (keys .entry)) (now (vals .entry))) (pairs w (now (wkeys .entry)) (now (wvals .entry)))) ⌝ }
 {
-    let wanted = index::find_in(&w.keys, &w.vals, w.count, 0);
+    let wanted = index::find_in(wkeys, wvals, w, 0);
     match wanted {
-        Found::At(word) => is_at(&s.keys, &s.vals, s.count, 0, word),
+        Found::At(word) => is_at(keys, vals, n, 0, word),
         Found::Missing => true,
     }
 }

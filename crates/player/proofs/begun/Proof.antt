@@ -2,42 +2,28 @@ use Rattle.player.proofs.Laws.{begun-append, begun-collect, begun-commi
 use borrow.Author.Needs.{needs}
 use Rattle.player.proofs.begun.Statement.{statement}
 use Rattle.player.proofs.begun.Tie as tie
-use Rattle.player.proofs.begun.Reads as reads
-use Rattle.player.proofs.begun.Lts as lts
-use Rattle.begin.proofs.append.Reads as append-reads
-use Rattle.begin.proofs.collect.Reads as collect-reads
-use Rattle.begin.proofs.commit.Reads as commit-reads
-use Rattle.begin.proofs.flush.Reads as flush-reads
 
--- src/lib.rt:132:9
-append-requires : tie.Need-append-requires
-append-requires c κs = search needs
+vj-append-requires : tie.Need-vj-append-requires
+vj-append-requires c κs = search needs
 
--- src/lib.rt:132:9
 returns : tie.Need-returns
 returns c = search (begun-append, needs)
 
--- src/lib.rt:135:9
-commit-requires : tie.Need-commit-requires
-commit-requires c κs = search needs
+vj-commit-requires : tie.Need-vj-commit-requires
+vj-commit-requires c κs = search needs
 
--- src/lib.rt:135:9
 returns-2 : tie.Need-returns-2
 returns-2 c = search (begun-commit, needs)
 
--- src/lib.rt:138:9
-collect-requires : tie.Need-collect-requires
-collect-requires c κs = search needs
+vj-collect-requires : tie.Need-vj-collect-requires
+vj-collect-requires c κs = search needs
 
--- src/lib.rt:138:9
 returns-3 : tie.Need-returns-3
 returns-3 c = search (begun-collect, needs)
 
--- src/lib.rt:140:5
-flush-requires : tie.Need-flush-requires
-flush-requires c κs = search needs
+vj-flush-requires : tie.Need-vj-flush-requires
+vj-flush-requires c κs = search needs
 
--- src/lib.rt:120:1
 returns-4 : tie.Need-returns-4
 returns-4 c = search (begun-flush, needs)
 
@@ -45,11 +31,11 @@ pub begun-spec : {M : Type 1} → statement M
 begun-spec =
     tie.close
     (tie.spec
-    append-requires
+    vj-append-requires
     returns
-    commit-requires
+    vj-commit-requires
     returns-2
-    collect-requires
+    vj-collect-requires
     returns-3
-    flush-requires
+    vj-flush-requires
     returns-4)

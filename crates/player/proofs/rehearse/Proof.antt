@@ -4,7 +4,7 @@ use Rattle.player.proofs.rehearse.Statement.{statement}
 use Rattle.player.proofs.rehearse.Tie as tie
 use Rattle.player.proofs.rehearse.Reads as reads
 use Rattle.player.proofs.rehearse.Lts as lts
-use Rattle.advance.proofs.step.Reads as step-reads
+use Rattle.journal_c.proofs.vj_step.Reads as vj-step-reads
 use Rattle.player.proofs.overwrite.Reads as overwrite-reads
 
 -- src/lib.rt:363:15
@@ -16,12 +16,12 @@ overwrite-requires : tie.Need-overwrite-requires
 overwrite-requires c κs = search needs
 
 -- src/lib.rt:364:28
-slice-aggregate-step : tie.Need-slice-aggregate-step
-slice-aggregate-step c = search needs
+slice-aggregate-vj-step : tie.Need-slice-aggregate-vj-step
+slice-aggregate-vj-step c = search needs
 
 -- src/lib.rt:364:5
-step-requires : tie.Need-step-requires
-step-requires c κs = search needs
+vj-step-requires : tie.Need-vj-step-requires
+vj-step-requires c κs = search needs
 
 -- src/lib.rt:358:1
 same-length : tie.Need-same-length
@@ -37,7 +37,7 @@ rehearse-spec =
     (tie.spec
     slice-aggregate-overwrite
     overwrite-requires
-    slice-aggregate-step
-    step-requires
+    slice-aggregate-vj-step
+    vj-step-requires
     same-length
     returns)

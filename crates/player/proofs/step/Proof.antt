@@ -4,7 +4,7 @@ use Rattle.player.proofs.step.Statement.{statement}
 use Rattle.player.proofs.step.Tie as tie
 use Rattle.player.proofs.step.Reads as reads
 use Rattle.player.proofs.step.Lts as lts
-use Rattle.advance.proofs.step.Reads as step-reads
+use Rattle.journal_c.proofs.vj_step.Reads as vj-step-reads
 use Rattle.player.proofs.answered.Reads as answered-reads
 use Rattle.player.proofs.refused.Reads as refused-reads
 
@@ -17,8 +17,8 @@ returns : tie.Need-returns
 returns c = search (step-lost, needs)
 
 -- src/lib.rt:184:9
-step-requires : tie.Need-step-requires
-step-requires c κs = search needs
+vj-step-requires : tie.Need-vj-step-requires
+vj-step-requires c κs = search needs
 
 -- src/lib.rt:186:5
 answered-requires : tie.Need-answered-requires
@@ -42,7 +42,7 @@ step-spec =
     (tie.spec
     refused-requires
     returns
-    step-requires
+    vj-step-requires
     answered-requires
     same-length
     same-length-2

@@ -1,52 +1,61 @@
-use Rattle.wanted.proofs.Laws.{answer-state, state-valves, answer-records, records-few, records-rise, records-valves, answer-index}
-use Rattle.state.proofs.Laws.{state-few, state-rises}
+use mathlib.Core.Path.{_≡_}
+use lib.ListN.{length}
+use Rattle.wanted.proofs.Laws.{answer-state, state-valves, answer-records, records-lent, records-valves, answer-index}
+use Rattle.state.proofs.Laws.{told-of, state-few, state-rises}
 use borrow.Author.Needs.{needs}
 use Rattle.wanted.proofs.answer.Statement.{statement}
 use Rattle.wanted.proofs.answer.Tie as tie
-use Rattle.wanted.proofs.answer.Reads as reads
-use Rattle.wanted.proofs.answer.Lts as lts
-use Rattle.state.proofs.state_refusal.Reads as state-refusal-reads
-use Rattle.wanted.proofs.from_index.Reads as from-index-reads
-use Rattle.wanted.proofs.record_refusal.Reads as record-refusal-reads
-use Rattle.wanted.proofs.refused.Reads as refused-reads
 
--- src/lib.rt:80:9
-state-refusal-requires : tie.Need-state-refusal-requires
-state-refusal-requires c κs = search needs
+parts-refusal-requires : tie.Need-parts-refusal-requires
+parts-refusal-requires c κs = search needs
 
--- src/lib.rt:82:9
 refused-requires : tie.Need-refused-requires
 refused-requires c κs = search needs
 
--- src/lib.rt:82:9
 returns : tie.Need-returns
-returns c = search answer-state
+returns c = search (answer-state, told-of)
 
--- src/lib.rt:84:9
 record-refusal-requires : tie.Need-record-refusal-requires
 record-refusal-requires c κs = search needs
 
--- src/lib.rt:86:9
 refused-requires-2 : tie.Need-refused-requires-2
 refused-requires-2 c κs = search needs
 
--- src/lib.rt:86:9
 returns-2 : tie.Need-returns-2
-returns-2 c = search answer-records
+returns-2 c = search (answer-records, told-of)
 
--- src/lib.rt:96:5
 from-index-requires : tie.Need-from-index-requires
-from-index-requires c κs = (search state-few, search state-rises, search state-valves, search records-few, search records-rise, search records-valves)
+from-index-requires c κs =
+    let t = c .before .before .before .before .before .before .before .before .before .before in
+    let u = t .before .before .before in
+    let start = u .before .before .before .before .before .before .before .before .before .before .before .before in
+    let m = start .args .m .now in
+    let s = start .args .t2 in
+    let n = start .args .t3 in
+    let long = parts-refusal-requires (u .before) (u .parts-refusal .lifetimes) in
+    let wkeys : length (n .keys) ≡ 192 = search (start .good .1 .1, needs) in
+    let wvals : length (n .vals) ≡ 192 = search (start .good .1 .1, needs) in
+    let e = told-of _ s _ (u .parts-refusal .ensures) in
+    let z = t .before .before .if1 .left in
+    let f = t .before .record-refusal .ensures in
+    let y = t .if2 .left in (
+      state-few m s _ e z,
+      long .0,
+      long .1,
+      state-rises m s _ e z,
+      state-valves m s n _ e z,
+      records-lent m s n _ e z _ f y (start .pre) wkeys wvals,
+      records-valves m s n _ e z _ f y (start .pre),
+    )
 
--- src/lib.rt:76:1
 returns-3 : tie.Need-returns-3
-returns-3 c = search answer-index
+returns-3 c = search (answer-index, told-of)
 
 pub answer-spec : {M : Type 1} → statement M
 answer-spec =
     tie.close
     (tie.spec
-    state-refusal-requires
+    parts-refusal-requires
     refused-requires
     returns
     record-refusal-requires

@@ -2,32 +2,22 @@ use Rattle.wanted_group.proofs.Eleven.{allowed-missing, allowed-at}
 use borrow.Author.Needs.{needs}
 use Rattle.wanted_group.proofs.entries_allowed.Statement.{statement}
 use Rattle.wanted_group.proofs.entries_allowed.Tie as tie
-use Rattle.wanted_group.proofs.entries_allowed.Reads as reads
-use Rattle.wanted_group.proofs.entries_allowed.Lts as lts
-use Rattle.index.proofs.find_in.Reads as find-in-reads
-use Rattle.wanted_group.proofs.is_at.Reads as is-at-reads
 
--- src/lib.rt:153:9
 find-in-requires : tie.Need-find-in-requires
 find-in-requires c κs = search needs
 
--- src/lib.rt:155:19
 enum-known-wanted : tie.Need-enum-known-wanted
 enum-known-wanted c = search needs
 
--- src/lib.rt:155:28
 is-at-requires : tie.Need-is-at-requires
 is-at-requires c κs = search needs
 
--- src/lib.rt:156:27
 enum-told : tie.Need-enum-told
 enum-told c = search needs
 
--- src/lib.rt:149:1
 returns : tie.Need-returns
 returns c = search allowed-at
 
--- src/lib.rt:149:1
 returns-2 : tie.Need-returns-2
 returns-2 c = search allowed-missing
 
