@@ -12,6 +12,7 @@ import glob
 import os
 import re
 import sys
+from pathlib import Path
 
 HEADING = "## What is ruled out"
 # A crate between backquotes, or a label beside it; a label has an underscore, and other words of a table have none.
@@ -31,7 +32,7 @@ NOTE = re.compile(r"^note: (\S*:\d+:\d+): (.*)$")
 def pairs_of(edit):
     """The file, the old and the new text of each replacement of an edit."""
     file = old = None
-    for line in open(edit, encoding="utf8").read().split("\n"):
+    for line in Path(edit).read_text(encoding="utf8").split("\n"):
         if line.startswith("file: "):
             file = line[6:]
         elif line.startswith("old: "):
@@ -64,7 +65,7 @@ def check_names(reading):
     """What is wrong between the tables and the edits, and the edits with their files."""
     there = {tuple(re.split("/must-fail/", e[len("crates/"):-len(".edit")])) for e in glob.glob("crates/*/must-fail/*.edit")}
     named, wrong = set(), []
-    for number, crate, label in named_in(open(reading, encoding="utf8").read()):
+    for number, crate, label in named_in(Path(reading).read_text(encoding="utf8")):
         named.add((crate, label))
         if (crate, label) not in there:
             wrong.append(f"{reading}:{number}: there is no crates/{crate}/must-fail/{label}.edit")
@@ -75,14 +76,14 @@ def check_names(reading):
         wrong += [f"{edit}: it replaces nothing"] if not pairs else []
         for file, old, _ in pairs:
             path = f"crates/{crate}/{file}"
-            times = open(path, encoding="utf8").read().count(old) if old and os.path.exists(path) else 0
+            times = Path(path).read_text(encoding="utf8").count(old) if old and os.path.exists(path) else 0
             wrong += [f"{edit}: its old text stands {times} times in {path}"] if times != 1 else []
     return len(there), wrong
 
 
 def first_error(log):
     """The first error of a log, or its first note with a place where it has no error, and where it stands."""
-    lines = open(log, encoding="utf8", errors="replace").read().split("\n")
+    lines = Path(log).read_text(encoding="utf8", errors="replace").split("\n")
     for form in (ERROR, NOTE):
         for line in lines:
             found = form.match(line)
