@@ -11,6 +11,7 @@ sys.dont_write_bytecode = True
 ROOT = os.path.dirname(os.path.dirname(os.path.abspath(__file__)))
 sys.path.insert(0, os.path.join(ROOT, "tools"))
 import edits
+import exports
 import gate
 
 LOG = """rt: lists proved (2 s)
@@ -24,6 +25,26 @@ rt: must-fail flash/no_such_text: BAD EDIT: an 'old:' text is not in src/lib.rt
 rt: morning ran as nobody, and wrote what its file 'stdout' has (1 s)
 5 passed, 2 failed
 """
+LIBRARY = """// Readings.
+#[no_mangle]
+pub extern "C" fn vj_first<'a>(m: &[u8], list: &'a mut [u16]) -> u8
+    ensures { λ r. ⌜ r ≡ first (now (m .entry)) ⌝ }
+{
+    { 1 }
+}
+
+#[no_mangle]
+pub extern "C" fn vj_second(
+    m: &[u8], // requires no length
+    p: (u8, u8),
+) -> u8
+    ensures { λ r. ⌜ r ≡ 2 ⌝ }
+{
+    2
+}
+"""
+HEADER = "uint8_t vj_first(const uint8_t *m);\nuint8_t vj_second(const uint8_t *m);\nstatic inline void vj_run(void)\n"
+RUST = 'extern "C" {\n    fn vj_first(m: *const u8) -> u8;\n    fn vj_second(m: *const u8) -> u8;\n}\n'
 READING = """# Reading
 | `page` old_name | not in the tables |
 
@@ -73,6 +94,49 @@ class Gate(unittest.TestCase):
     def test_a_log_without_a_check(self):
         with files({"log": "nothing\n"}) as folder, contextlib.redirect_stdout(io.StringIO()):
             self.assertEqual(gate.main([os.path.join(folder, "log")]), 1)
+
+
+class Exports(unittest.TestCase):
+    def faults(self, library=LIBRARY, header=HEADER, rust=RUST, lent=None):
+        texts = {"crates/a/src/lib.rt": library, "include/valve_journal.h": header, "include/valve_journal.rs": rust}
+        with files(texts) as folder:
+            return exports.check(folder, {"vj_first": ["list"]} if lent is None else lent)[1]
+
+    def one(self, words, **given):
+        faults = self.faults(**given)
+        self.assertEqual(len(faults), 1, faults)
+        self.assertIn(words, faults[0])
+
+    def test_as_it_should_be(self):
+        self.assertEqual(self.faults(), [])
+
+    def test_the_repository(self):
+        self.assertEqual(exports.check(ROOT, exports.LENT)[1], [])
+
+    def test_requires(self):
+        self.one("vj_second has a `requires`", library=LIBRARY.replace(
+            "    ensures { λ r. ⌜ r ≡ 2 ⌝ }", "    requires { ⌜ length (now m) ≡ 0 ⌝ }\n    ensures { λ r. ⌜ r ≡ 2 ⌝ }"))
+
+    def test_no_promise(self):
+        self.one("vj_second has no `ensures`", library=LIBRARY.replace("    ensures { λ r. ⌜ r ≡ 2 ⌝ }\n", ""))
+
+    def test_a_reading_that_may_write(self):
+        self.one("vj_second takes `m` by `&mut`", library=LIBRARY.replace("    m: &[u8],", "    m: &mut [u8],"))
+
+    def test_lent_for_nothing(self):
+        self.one("vj_first no longer takes `list`", library=LIBRARY.replace("&'a mut", "&'a"))
+
+    def test_a_list_entry_that_is_no_export(self):
+        self.one("vj_third is no export", lent={"vj_first": ["list"], "vj_third": ["m"]})
+
+    def test_not_in_a_header(self):
+        self.one("valve_journal.h does not declare vj_second", header=HEADER.replace("vj_second", "static_second"))
+
+    def test_declared_and_not_exported(self):
+        self.one("valve_journal.rs declares vj_third", rust=RUST.replace("}", "    fn vj_third(m: *const u8) -> u8;\n}"))
+
+    def test_an_unmarked_function(self):
+        self.one("without #[no_mangle]", library=LIBRARY + 'pub extern "C" fn vj_third() -> u8 {\n    3\n}\n')
 
 
 class Edits(unittest.TestCase):
