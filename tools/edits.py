@@ -23,10 +23,11 @@ SHAPES = [
     ("a name that is not there", re.compile(r"can be named from here|not in scope|no module is found|is no field|has no field")),
     ("a line that is not used", re.compile(r"\bunused\b|brings nothing|not used")),
     ("a text that does not parse", re.compile(r"parse|unexpected|expected (a|an|the end|one of|`)(?! ?proof)[^:]{0,60}(, found|here)")),
+    ("a step that the prover did not find by itself", re.compile(r"^`(slice-)?aggregate-step")),
     ("only what an earlier error holds back", re.compile(r"was not admitted|admitted by the kernel")),
 ]
 ERROR = re.compile(r"^(\S*): error(?:\[[^\]]*\])?: (.*)$")
-NOTE = re.compile(r"^note: (\S*:\d+:\d+): (.*)$")
+NOTE = re.compile(r"^note: (?:what antt said of [^:]*: )?(\S*:\d+:\d+): (.*)$")
 
 
 def pairs_of(edit):
