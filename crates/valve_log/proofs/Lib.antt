@@ -14,6 +14,8 @@ pub mod Due
 pub mod Events
 pub mod Formats
 pub mod Point3
+pub mod Allowed
+pub mod ValveZero
 pub mod Supply
 pub mod Ready
 pub mod Steady

@@ -13,7 +13,7 @@ use Rattle.page.specs.Pages.{View}
 use Rattle.flash.specs.Medium.{views}
 use Rattle.nodes.specs.Nodes.{wordAt, sound, words}
 use Rattle.valve_log.specs.History.{History}
-use Rattle.valve_log.specs.Reached.{World, Reached, Words, Point3}
+use Rattle.valve_log.specs.Reached.{World, Reached, Words, Shows, Point3}
 use Rattle.valve_log.proofs.Sound.{outcome, accepts}
 use Rattle.valve_log.proofs.Events.{Upheld, happen-good}
 use Rattle.valve_log.proofs.Formats.{in-format, starts}
@@ -33,10 +33,9 @@ words-of v (x ∷ l) h =
     has none e = true-false e (unfold isSome in refl)
     has (some w) e = unfold valueOr in refl
 
-pub point3 : Point3
-unfolding Point3
-point3 w h r =
-    let U = reached-upheld w h r in
+-- what the invariant says of recovery
+pub upheld-shows : (w : World) (h : History) → Upheld w h → Shows (w .medium) h
+upheld-shows w h U =
     let M = U .coupled .medium in
     record {
       log = h .log;
@@ -45,3 +44,7 @@ point3 w h r =
       same-log = refl;
       same-settings = unfold outcome in rw (M .shows) at (words-of (views (w .medium)) _ (M .sounds));
     }
+
+pub point3 : Point3
+unfolding Point3
+point3 w h r = upheld-shows w h (reached-upheld w h r)

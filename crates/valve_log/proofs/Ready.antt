@@ -15,13 +15,13 @@ use Rattle.lists.specs.Lists.{all, every, isSome}
 use Rattle.lists.specs.Needs.{Answer, refused, gives, under}
 use Rattle.lists.specs.Cells.{Entry, Place}
 use Rattle.lists.proofs.Laws.{by-cases, and-both, true-false, below-same, every-at, all-head, all-tail, all-take}
-use Rattle.page.specs.Pages.{Page, View, spoilt, whole, page, isClean, pagesFor}
+use Rattle.page.specs.Pages.{Page, View, spoilt, whole, page, isClean, pagesFor, changesOf}
 use Rattle.page.specs.Buffer.{groupsPage}
 use Rattle.page.proofs.Berger.{Turned, kept, torn, blanked}
 use Rattle.flash.specs.Medium.{seen, whollyClean}
 use Rattle.flash.proofs.Steps.{seen-set-other}
 use Rattle.flash.proofs.Cuts.{CutViews}
-use Rattle.index.specs.Index.{rising, assignAll}
+use Rattle.index.specs.Index.{rising, assignAll, entriesAllowed}
 use Rattle.blocks.specs.declared.Head.{Head}
 use Rattle.blocks.specs.Blocks.{sizeOk, available, reachesBase, oldBlock, headWithRoom, newHead, pageDue, collectible}
 use Rattle.nodes.specs.Nodes.{nodeIn, wordFor, wordAt, inBlock, sound, words, live}
@@ -433,9 +433,9 @@ module _ (v : List View) (s : Held) (h : History) (c : Coupled v (some s) h) (r 
   due-ready gs flush e = flush-ready gs e
   due-ready gs unnamed e = absurd (unfold Left in (rw e at (r .left)))
 
-  pub step-ready : (b : List ℕ) → Lent s b h → (n : ℕ) → sizeOk n ≡ true → StepReady v (stepOf n v s b)
+  pub step-ready : (b : List ℕ) → Lent s b h → entriesAllowed (changesOf (h .buffered)) ≡ true → (n : ℕ) → sizeOk n ≡ true → StepReady v (stepOf n v s b)
   unfolding stepOf under
-  step-ready b L n size =
-      let f = with-fit v L (fit-ready v s h c r) in
+  step-ready b L A n size =
+      let f = with-fit v L A (fit-ready v s h c r) in
       by-cases (isIdle (s .pending)) (λ i. rw (size, f, i) (unfold StepReady in expected-9))
       (λ i. rw (size, f, i) (first-ready (due v s (bufferedIn b) (s .pending)) (due-ready (bufferedIn b) (s .pending) refl)))

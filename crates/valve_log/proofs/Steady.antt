@@ -42,6 +42,7 @@ use Rattle.valve_log.proofs.Lent.{Lent, lent-of, with-fit}
 use Rattle.valve_log.proofs.Due.{Good}
 use Rattle.valve_log.proofs.Events.{Upheld, Sized, sized, there, erase-cut, due-good}
 use Rattle.valve_log.proofs.Formats.{Begins, basePage, started, in-format, starts}
+use Rattle.valve_log.proofs.Allowed.{Allowed, reached-allowed}
 use Rattle.valve_log.proofs.Point3.{reached-upheld}
 use Rattle.valve_log.proofs.Ready.{Left, Ready, fit-ready, sound-part, fit-append, fit-commit, left-append, left-commit, left-collect, left-flush, StepReady, step-ready}
 
@@ -204,36 +205,36 @@ cut-ready w left (refused n) = tt
 cut-ready w left (gives (Step.program p pg s finished)) = tt
 cut-ready w left (gives (Step.erase b s finished)) = tt
 
-event-ready : (m : List ℕ) (s : Option Held) (b : List ℕ) (h : History) (e : Event (world m s b)) → Upheld (world m s b) h → StateReady (views m) s
+event-ready : (m : List ℕ) (s : Option Held) (b : List ℕ) (h : History) (e : Event (world m s b)) → Upheld (world m s b) h → Allowed h → StateReady (views m) s
     → StateReady (views (happen (world m s b) e .after .medium)) (happen (world m s b) e .after .state)
 unfolding happen withState stepDue
-event-ready m none b h (Event.append ks ws x y) U r = r
-event-ready m (some s) b h (Event.append ks ws x y) U r =
+event-ready m none b h (Event.append ks ws x y) U A r = r
+event-ready m (some s) b h (Event.append ks ws x y) U A r =
     unfold appendOf StateReady in call-ready m s b h U r (beganAppend (zip ks ws)) (appendNeeds (length m) (views m) s b ks ws)
     (starting s (append (zip ks ws) [])) (append-begun (length m) (views m) s b h (U .coupled) r ks ws)
-event-ready m none b h Event.commit U r = r
-event-ready m (some s) b h Event.commit U r =
+event-ready m none b h Event.commit U A r = r
+event-ready m (some s) b h Event.commit U A r =
     unfold commitOf StateReady in call-ready m s b h U r beganCommit (commitNeeds (length m) (views m) s b) (starting s (commit 0)) (commit-begun (length m) (views m) s b h (U .coupled) r)
-event-ready m none b h (Event.collect k) U r = r
-event-ready m (some s) b h (Event.collect k) U r =
+event-ready m none b h (Event.collect k) U A r = r
+event-ready m (some s) b h (Event.collect k) U A r =
     unfold collectOf StateReady in call-ready m s b h U r beganCollect (collectNeeds (length m) (views m) s b k) (starting s (collect k)) (collect-begun (length m) (views m) s b h (U .coupled) r k)
-event-ready m none b h (Event.buffer ks ws x y) U r = r
-event-ready m (some s) b h (Event.buffer ks ws x y) U r =
+event-ready m none b h (Event.buffer ks ws x y) U A r = r
+event-ready m (some s) b h (Event.buffer ks ws x y) U A r =
     unfold bufferOf StateReady in buffer-ready m s b h U r (putIn (zip ks ws)) (bufferNeeds (length m) (views m) s b ks ws) (holding (bufferedIn b ++ (zip ks ws ∷ [])))
-event-ready m none b h Event.flush U r = r
-event-ready m (some s) b h Event.flush U r =
+event-ready m none b h Event.flush U A r = r
+event-ready m (some s) b h Event.flush U A r =
     unfold flushOf StateReady in call-ready m s b h U r beganFlush (flushNeeds (length m) (views m) s b) (starting s flush) (flush-begun (length m) (views m) s b h (U .coupled) r)
-event-ready m none b h Event.step U r = unfold stepped in r
-event-ready m (some s) b h Event.step U r =
-    unfold StateReady in stepped-ready m s b h U r (stepOf (length m) (views m) s b) (due-good m s b h U) (step-ready (views m) s h (U .coupled) r b (lent-of (U .lending)) (length m) (U .size))
-event-ready m s b h Event.recover U r = recover-ready m s b h U
-event-ready m s b h Event.read U r = r
-event-ready m s b h Event.cut U r = unfold StateReady in tt
-event-ready m s b h (Event.cutInside left c) U r = cut-ready (world m s b) left (stepDue (world m s b))
+event-ready m none b h Event.step U A r = unfold stepped in r
+event-ready m (some s) b h Event.step U A r =
+    unfold StateReady in stepped-ready m s b h U r (stepOf (length m) (views m) s b) (due-good m s b h U) (step-ready (views m) s h (U .coupled) r b (lent-of (U .lending)) A (length m) (U .size))
+event-ready m s b h Event.recover U A r = recover-ready m s b h U
+event-ready m s b h Event.read U A r = r
+event-ready m s b h Event.cut U A r = unfold StateReady in tt
+event-ready m s b h (Event.cutInside left c) U A r = cut-ready (world m s b) left (stepDue (world m s b))
 
 pub reached-ready : (w : World) (h : History) → Reached w h → StateReady (views (w .medium)) (w .state)
 reached-ready w h (Reached.start v F e) = starts-ready (lentAnew (happen v Event.step .after)) (starts (v .medium) (v .buffer) (v .state) (in-format v F) e)
-reached-ready w h (Reached.next v g e r) = event-ready (v .medium) (v .state) (v .buffer) g e (reached-upheld v g r) (reached-ready v g r)
+reached-ready w h (Reached.next v g e r) = event-ready (v .medium) (v .state) (v .buffer) g e (reached-upheld v g r) (reached-allowed v g r) (reached-ready v g r)
 
 -- ---- what the calls answer
 
@@ -280,8 +281,8 @@ module _ (m : List ℕ) (s : Held) (bs : List ℕ) (h : History) (U : Upheld (wo
   L : Lent s bs h
   L = lent-of (U .lending)
 
-  fits-with : fitWith v s bs ≡ true
-  fits-with = with-fit v L fits
+  fits-with : Allowed h → fitWith v s bs ≡ true
+  fits-with A = with-fit v L A fits
 
   index-sound : sound v (s .index) ≡ true
   index-sound = ap (sound v) (alive-of (U .coupled .memory) .indices) ∙ U .coupled .medium .sounds
@@ -306,34 +307,34 @@ module _ (m : List ℕ) (s : Held) (bs : List ℕ) (h : History) (U : Upheld (wo
   unfolding expected every filedSettings
   settings-answers lists n e = rw (filed-fairly lists _ (length (h .settings)) n (sym (settings-filed lists) ∙ e))
 
-  append-answers : (ks ws : List ℕ) (n : ℕ) → appendOf (length m) v s bs ks ws ≡ refused n → expected n ≡ true
+  append-answers : Allowed h → (ks ws : List ℕ) (n : ℕ) → appendOf (length m) v s bs ks ws ≡ refused n → expected n ≡ true
   unfolding appendOf expected every
-  append-answers ks ws =
+  append-answers A ks ws =
       call-fair (appendNeeds (length m) v s bs ks ws) (starting s (append (zip ks ws) []))
-      (met (U .size) (met fits-with (may refl (may refl (may refl (may refl (may refl (may refl (may refl end)))))))))
+      (met (U .size) (met (fits-with A) (may refl (may refl (may refl (may refl (may refl (may refl (may refl end)))))))))
 
-  commit-answers : (n : ℕ) → commitOf (length m) v s bs ≡ refused n → expected n ≡ true
+  commit-answers : Allowed h → (n : ℕ) → commitOf (length m) v s bs ≡ refused n → expected n ≡ true
   unfolding commitOf expected every
-  commit-answers = call-fair (commitNeeds (length m) v s bs) (starting s (commit 0)) (met (U .size) (met fits-with (may refl (may refl (may refl (may refl end))))))
+  commit-answers A = call-fair (commitNeeds (length m) v s bs) (starting s (commit 0)) (met (U .size) (met (fits-with A) (may refl (may refl (may refl (may refl end))))))
 
-  collect-answers : (b n : ℕ) → collectOf (length m) v s bs b ≡ refused n → expected n ≡ true
+  collect-answers : Allowed h → (b n : ℕ) → collectOf (length m) v s bs b ≡ refused n → expected n ≡ true
   unfolding collectOf expected every
-  collect-answers b =
+  collect-answers A b =
       call-fair (collectNeeds (length m) v s bs b) (starting s (collect b))
-      (met (U .size) (met fits-with (may refl (may refl (may refl (met (sound-part v (s .index) (live (s .index) b) index-sound (λ x i. in-live (s .index) b i)) (may refl (may refl end))))))))
+      (met (U .size) (met (fits-with A) (may refl (may refl (may refl (met (sound-part v (s .index) (live (s .index) b) index-sound (λ x i. in-live (s .index) b i)) (may refl (may refl end))))))))
 
-  flush-answers : (n : ℕ) → flushOf (length m) v s bs ≡ refused n → expected n ≡ true
+  flush-answers : Allowed h → (n : ℕ) → flushOf (length m) v s bs ≡ refused n → expected n ≡ true
   unfolding flushOf expected every
-  flush-answers = call-fair (flushNeeds (length m) v s bs) (starting s flush) (met (U .size) (met fits-with (may refl (may refl (may refl (may refl (may refl (may refl end))))))))
+  flush-answers A = call-fair (flushNeeds (length m) v s bs) (starting s flush) (met (U .size) (met (fits-with A) (may refl (may refl (may refl (may refl (may refl (may refl end))))))))
 
-  buffer-answers : (ks ws : List ℕ) (n : ℕ) → bufferOf (length m) v s bs ks ws ≡ refused n → expected n ≡ true
+  buffer-answers : Allowed h → (ks ws : List ℕ) (n : ℕ) → bufferOf (length m) v s bs ks ws ≡ refused n → expected n ≡ true
   unfolding bufferOf expected every
-  buffer-answers ks ws =
+  buffer-answers A ks ws =
       call-fair (bufferNeeds (length m) v s bs ks ws) (holding (bufferedIn bs ++ (zip ks ws ∷ [])))
-      (met (U .size) (met fits-with (may refl (may refl (may refl (may refl (may refl (may refl (may refl end)))))))))
+      (met (U .size) (met (fits-with A) (may refl (may refl (may refl (may refl (may refl (may refl (may refl end)))))))))
 
-  step-answers : (n : ℕ) → stepOf (length m) v s bs ≡ refused n → expected n ≡ true
-  step-answers = go (stepOf (length m) v s bs) (step-ready v s h (U .coupled) r bs L (length m) (U .size))
+  step-answers : Allowed h → (n : ℕ) → stepOf (length m) v s bs ≡ refused n → expected n ≡ true
+  step-answers A = go (stepOf (length m) v s bs) (step-ready v s h (U .coupled) r bs L A (length m) (U .size))
     where
       go : (st : Answer Step) → StepReady v st → (n : ℕ) → st ≡ refused n → expected n ≡ true
       go (refused k) R n e = let q : k ≡ n = cc in let t : expected k ≡ true = unfold StepReady in R in rw q at t
@@ -352,36 +353,36 @@ module _ (m : List ℕ) (s : Held) (bs : List ℕ) (h : History) (U : Upheld (wo
       (λ q. call-fair (openingNeeds (length m) v s valve) _ (met (U .size) (met fits (met q (met (has-word valve q) end)))) n e)
       (λ q. let z : 18 ≡ n = same-refusal 18 n (rw (U .size, fits, q) at e) in rw (← z))
 
-  word-answers : (valve : ℕ) → expected (wordRefusal m v s bs valve) ≡ true
+  word-answers : Allowed h → (valve : ℕ) → expected (wordRefusal m v s bs valve) ≡ true
   unfolding wordRefusal sought soughtIn refusalOf answerOr under expected every
-  word-answers valve = go (lastNaming valve 0 (changesOf (bufferedIn bs)))
+  word-answers A valve = go (lastNaming valve 0 (changesOf (bufferedIn bs)))
     where
       go : (o : Option ℕ) → expected (refusalOf (need 1 (sizeOk (length m)) ∷ need 7 (fitWith v s bs) ∷ soughtIn v s bs valve o .needs)) ≡ true
-      go (some i) = by-cases (setsAt (changesOf (bufferedIn bs)) i) (λ e. rw (U .size, fits-with, e)) (λ e. rw (U .size, fits-with, e))
+      go (some i) = by-cases (setsAt (changesOf (bufferedIn bs)) i) (λ e. rw (U .size, fits-with A, e)) (λ e. rw (U .size, fits-with A, e))
       go none =
-          by-cases (isSome (lookup valve (s .index))) (λ e. rw (U .size, fits-with, e, has-word valve e)) (λ e. rw (U .size, fits-with, e))
+          by-cases (isSome (lookup valve (s .index))) (λ e. rw (U .size, fits-with A, e, has-word valve e)) (λ e. rw (U .size, fits-with A, e))
 
 -- ---- the theorem
 
 pub steady : Steady
 unfolding Steady
-steady w h s R e = answers (w .medium) (w .buffer) (w .state) (reached-upheld w h R) (reached-ready w h R) e
+steady w h s R e = answers (w .medium) (w .buffer) (w .state) (reached-upheld w h R) (reached-ready w h R) (reached-allowed w h R) e
   where
-    answers : (m bs : List ℕ) (o : Option Held) → Upheld (world m o bs) h → StateReady (views m) o → o ≡ some s → Answers m s bs
-    answers m bs none U r e = let z : _≡_ {A = ℕ} 0 1 = cc in absurd (omega arith)
-    answers m bs (some t) U r e =
+    answers : (m bs : List ℕ) (o : Option Held) → Upheld (world m o bs) h → StateReady (views m) o → Allowed h → o ≡ some s → Answers m s bs
+    answers m bs none U r A e = let z : _≡_ {A = ℕ} 0 1 = cc in absurd (omega arith)
+    answers m bs (some t) U r A e =
         let q : t ≡ s = cc in
         let r′ : Ready (views m) t = unfold StateReady in r in
         rw (← q)
         (record {
-          append = append-answers m t bs h U r′;
-          commit = commit-answers m t bs h U r′;
-          collect = collect-answers m t bs h U r′;
-          buffer = buffer-answers m t bs h U r′;
-          flush = flush-answers m t bs h U r′;
-          step = step-answers m t bs h U r′;
+          append = append-answers m t bs h U r′ A;
+          commit = commit-answers m t bs h U r′ A;
+          collect = collect-answers m t bs h U r′ A;
+          buffer = buffer-answers m t bs h U r′ A;
+          flush = flush-answers m t bs h U r′ A;
+          step = step-answers m t bs h U r′ A;
           opening = opening-answers m t bs h U r′;
-          word = word-answers m t bs h U r′;
+          word = word-answers m t bs h U r′ A;
           settings = settings-answers m t bs h U r′;
           pick = unfold pickOf in state-met m t bs h U r′ _;
           survey = unfold surveyOf in state-met m t bs h U r′ _;

@@ -40,6 +40,7 @@ use Rattle.valve_log.proofs.Lent.{Lent, lent-of, lent-groups, with-fit}
 use Rattle.valve_log.proofs.Events.{Upheld}
 use Rattle.valve_log.proofs.Point3.{reached-upheld}
 use Rattle.valve_log.proofs.Ready.{Ready, fit-ready}
+use Rattle.valve_log.proofs.Allowed.{Allowed, reached-allowed}
 use Rattle.valve_log.proofs.Steady.{StateReady, reached-ready, has-word}
 
 -- ---- a valve in a list that rises
@@ -180,7 +181,7 @@ lookup-words v k (x ∷ l) =
 
 -- ---- what the reading tells
 
-module _ (m : List ℕ) (s : Held) (bs : List ℕ) (h : History) (U : Upheld (world m (some s) bs) h) (r : Ready (views m) s) (valve : ℕ) where
+module _ (m : List ℕ) (s : Held) (bs : List ℕ) (h : History) (U : Upheld (world m (some s) bs) h) (r : Ready (views m) s) (A : Allowed h) (valve : ℕ) where
   abbrev v : List View
   v = views m
 
@@ -188,7 +189,7 @@ module _ (m : List ℕ) (s : Held) (bs : List ℕ) (h : History) (U : Upheld (wo
   L = lent-of (U .lending)
 
   fits-all : fitWith v s bs ≡ true
-  fits-all = with-fit v L (fit-ready v s h (U .coupled) r)
+  fits-all = with-fit v L A (fit-ready v s h (U .coupled) r)
 
   abbrev es : List Entry
   es = changesOf (h .buffered)
@@ -295,11 +296,11 @@ module _ (m : List ℕ) (s : Held) (bs : List ℕ) (h : History) (U : Upheld (wo
 
 pub word-told : WordTold
 unfolding WordTold
-word-told w h s valve R e = answers (w .medium) (w .buffer) (w .state) (reached-upheld w h R) (reached-ready w h R) e
+word-told w h s valve R e = answers (w .medium) (w .buffer) (w .state) (reached-upheld w h R) (reached-ready w h R) (reached-allowed w h R) e
   where
-    answers : (m bs : List ℕ) (o : Option Held) → Upheld (world m o bs) h → StateReady (views m) o → o ≡ some s → Tells m s bs h valve
-    answers m bs none U r e = let z : _≡_ {A = ℕ} 0 1 = cc in absurd (omega arith)
-    answers m bs (some t) U r e =
+    answers : (m bs : List ℕ) (o : Option Held) → Upheld (world m o bs) h → StateReady (views m) o → Allowed h → o ≡ some s → Tells m s bs h valve
+    answers m bs none U r A e = let z : _≡_ {A = ℕ} 0 1 = cc in absurd (omega arith)
+    answers m bs (some t) U r A e =
         let q : t ≡ s = cc in
         let r′ : Ready (views m) t = unfold StateReady in r in
-        rw (← q) (tells m t bs h U r′ valve)
+        rw (← q) (tells m t bs h U r′ A valve)
