@@ -5,6 +5,7 @@ use mathlib.Core.List.{List, [], _∷_}
 use Prim.Native.Nat.{ℕ, _/_, _≤_}
 use native.Mathlib.Omega.{arith}
 use lib.ListN.{length}
+use denote.Ref.{RefT, now as refNow}
 use Rattle.lists.specs.Lists.{every}
 use Rattle.lists.specs.Needs.{Answer, refused, gives, answered, andThen}
 use Rattle.lists.specs.Cells.{Entry, Setting}
@@ -19,8 +20,10 @@ use Rattle.recover.specs.Recovers.{Recovers}
 use Rattle.readings.specs.Readings.{filedLog, readLog}
 use Rattle.filing.specs.Filed.{leaving}
 use Rattle.log_reader.specs.declared.LogPlace.{LogPlace}
-use Rattle.log_reader.specs.Reader.{startOf, refusedPlace, over}
+use Rattle.log_reader.specs.declared.LogReader.{LogReader}
+use Rattle.log_reader.specs.Reader.{startOf, refusedPlace, over, AskedInTurn}
 use Rattle.log_reader.proofs.FirstToLast.{first-to-last}
+use Rattle.log_reader.proofs.Form.{answers, form-first-to-last}
 use Rattle.spans.specs.Spans.{spanEffect, effectOf}
 use Rattle.mattered.specs.Mattered.{mattered, listedIn, readMattered}
 use Rattle.valve_log.specs.History.{History, history, nothing}
@@ -34,11 +37,11 @@ use Rattle.fading.proofs.Moments.{PageChange, happen-change, OlderStand, older-
 use Rattle.fading.proofs.Fading.{faded-within, next-two, as-since, refused-with-4-to-6}
 use Rattle.fading.proofs.Made.{Tallied, tell-tallied, start-tallied, MadeSince, none-since, more-since, log-among, settings-then}
 use Rattle.journal.specs.Run.{Machine, worldOf, Moves, toldBy, Run, Handed}
-use Rattle.journal.specs.Reader.{AskedInTurn, ReadOut}
+use Rattle.journal.specs.Reader.{ReadOut}
 use Rattle.journal.specs.Fading.{RunAtOrBefore, now, earlier, MomentOfRun, TurnedBack, HandedAsThen, TurnedBackOrHanded, refuses, hands, FadesOfCode}
 use Rattle.journal.specs.Fading.{groupsMadeBy, HandedAsMade, OnlyMadeOfCode, SerialTellsOfCode}
 use Rattle.journal.proofs.Chain.{moves, answers-finished, formatting, runs, found-state, handed, size-reached, fit-reached}
-use Rattle.journal.proofs.Reader.{answers, out}
+use Rattle.journal.proofs.Reader.{out}
 use Rattle.journal.proofs.SinceCommit.{effect-shown}
 use Rattle.journal.proofs.Mattered.{mattered-shown}
 
@@ -123,6 +126,10 @@ module _ (m : List ℕ) (n : ℕ) (among : (4 ≤ n) × (n ≤ 6)) (e : recover 
   at-none : (p : LogPlace) → p ≡ startOf m → p ≡ refusedPlace n
   at-none p q = q ∙ first-to-last .refusal m n e
 
+  -- the medium behind a lent slice
+  lent : (l : RefT (List ℕ)) → refNow l ≡ m → recover (length (refNow l)) (views (refNow l)) ≡ refused n
+  lent l q = subst (λ (x : List ℕ). recover (length x) (views x) ≡ refused n) (sym q) e
+
   turned-back : TurnedBack m n
   turned-back =
       record {
@@ -133,6 +140,8 @@ module _ (m : List ℕ) (n : ℕ) (among : (4 ≤ n) × (n ≤ 6)) (e : recover 
         groups = λ lent lent′ a p. p ∙ ap (leaving (lent ∷ [])) (unfold readMattered andThen in ap (λ (x : Answer Recovery). andThen x (λ r. listedIn lent (mattered (r .log)))) e);
         reader = λ p q. ap (λ (x : LogPlace). x .number) (at-none p q);
         nothing = λ p cs q a. answers (over (first-to-last .none-refused m n (λ z. let k = among .0 in omega arith))) (subst (λ (x : LogPlace). AskedInTurn m x cs) (at-none p q) a);
+        form = λ l r q p. form-first-to-last .refusal l n (lent l q) r p;
+        form-nothing = λ l r cs q p a. form-first-to-last .nothing l n (lent l q) r cs p a;
       }
 
 -- ---- the claim
@@ -176,7 +185,7 @@ module _ (m : List ℕ) (g : History) where
   handed-alone H = record { accepted = H .accepted; log = H .log; settings = H .settings; opening = H .opening; list = H .list }
 
   read-alone : ReadOut m g → ReadOut m (history (g .settings) (g .log) nothing [])
-  read-alone H = record { accepted = H .accepted; log = H .log }
+  read-alone H = record { accepted = H .accepted; log = H .log; form-accepted = H .form-accepted; form-log = H .form-log }
 
 pub only-made-of-code : OnlyMadeOfCode
 unfolding OnlyMadeOfCode FadesOfCode

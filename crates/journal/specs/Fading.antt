@@ -3,6 +3,7 @@
 use mathlib.Core.Path.{_≡_}
 use mathlib.Core.List.{List, [], _∷_, _++_}
 use Prim.Native.Nat.{ℕ, _≤_}
+use denote.Ref.{RefT, now as refNow}
 use Rattle.lists.specs.Needs.{refused, answered}
 use Rattle.lists.specs.Cells.{Entry}
 use Rattle.state.specs.State.{meaning}
@@ -12,7 +13,8 @@ use Rattle.filing.specs.declared.Counted.{Counted}
 use Rattle.filing.specs.Filed.{leftBy, leaving, Logs}
 use Rattle.log_reader.specs.declared.LogPlace.{LogPlace}
 use Rattle.log_reader.specs.declared.ReadChange.{ReadChange}
-use Rattle.log_reader.specs.Reader.{startOf}
+use Rattle.log_reader.specs.declared.LogReader.{LogReader}
+use Rattle.log_reader.specs.Reader.{startOf, MakesReader, NextInTurn, AskedInTurn, GivesLog}
 use Rattle.spans.specs.declared.SpanEffect.{SpanEffect}
 use Rattle.spans.specs.Spans.{spanEffect}
 use Rattle.spans.specs.Along.{answerOf, Effects}
@@ -23,7 +25,7 @@ use Rattle.valve_log.specs.Reached.{Event}
 use Rattle.fading.specs.Fading.{Faded}
 use Rattle.fading.specs.Made.{groupsCounting}
 use Rattle.journal.specs.Run.{Machine, worldOf, Moves, toldBy, Run, Handed}
-use Rattle.journal.specs.Reader.{AskedInTurn, GivesLog, ReadOut}
+use Rattle.journal.specs.Reader.{ReadOut}
 
 -- ---- the moments of a run
 
@@ -43,7 +45,7 @@ pub record MomentOfRun {x : Machine} {h : History} (r : Run x h) : Type 0 where
 -- ---- what is handed
 
 -- Recovery refuses m with the number n, 4, 5 or 6, whatever it answers; so do the log and the groups that mattered, and leave the lent lists as they are;
--- so does the effect of a span; and so does the log reader, which gives no change however often it is asked.
+-- so does the effect of a span; and so does the log reader, by its calls and as the form that holds the medium, and gives no change however often it is asked.
 pub record TurnedBack (m : List ℕ) (n : ℕ) : Type 0 where
   pub number : (4 ≤ n) × (n ≤ 6)
   pub recovery : (r : Recovered) → Recovers m r → r .number ≡ n
@@ -53,6 +55,8 @@ pub record TurnedBack (m : List ℕ) (n : ℕ) : Type 0 where
   pub groups : (out out′ : List ℕ) (a : Counted) → ListsMattered m out a out′ → leftBy a (out′ ∷ []) ≡ leaving (out ∷ []) (refused n)
   pub reader : (p : LogPlace) → p ≡ startOf m → p .number ≡ n
   pub nothing : (p : LogPlace) (cs : List ReadChange) → p ≡ startOf m → AskedInTurn m p cs → GivesLog [] [] cs
+  pub form : (l : RefT (List ℕ)) (r : LogReader) → refNow l ≡ m → MakesReader l r → r .place .number ≡ n
+  pub form-nothing : (l : RefT (List ℕ)) (r : LogReader) (cs : List ReadChange) → refNow l ≡ m → MakesReader l r → NextInTurn r cs → GivesLog [] [] cs
 
 -- Whatever recovery answers of m and of the medium `then`, it is the same: accepted, with states of the same meaning. The log, the settings and each
 -- opening, with the state recovered from m, the log reader's changes, the effects of spans and the groups that mattered are those of the history g, all of
