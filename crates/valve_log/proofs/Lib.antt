@@ -13,9 +13,9 @@ pub mod Lent
 pub mod Due
 pub mod Events
 pub mod Formats
+pub mod ValveZero
 pub mod Point3
 pub mod Allowed
-pub mod ValveZero
 pub mod Supply
 pub mod Ready
 pub mod Steady
