@@ -22,6 +22,7 @@ pub mod Steady
 pub mod Stateless
 pub mod Quiet
 pub mod Finished
+pub mod ValveZeroSet
 pub mod Weak
 pub mod Once
 pub mod Buffered

@@ -20,7 +20,7 @@ use Rattle.calls.specs.Calls.{starting, zip, appendNeeds, flushNeeds, bufferNee
 use Rattle.step.specs.Step.{Step, due, erasedFirst}
 use Rattle.valve_log.specs.History.{History, tell}
 use Rattle.valve_log.specs.Reached.{World, world, withState, CutOf, stepped, stepDueBefore, Earlier, happened, Before}
-use Rattle.valve_log.specs.ValveZero.{allowedBefore, with11, appendBefore, bufferBefore, flushBefore, pendingBefore, fitBefore, stepBefore}
+use Rattle.valve_log.specs.ValveZero.{entryAllowedBefore, allowedBefore, with11, appendBefore, bufferBefore, flushBefore, pendingBefore, fitBefore, stepBefore}
 use Rattle.valve_log.proofs.Small.{words-small}
 use Rattle.valve_log.proofs.Coupling.{Fits, fits, Let-in, Awaited, awaited}
 use Rattle.valve_log.proofs.Lent.{lent-of, state-fit}
@@ -29,13 +29,13 @@ use Rattle.valve_log.proofs.Events.{Upheld, Follows, few-views, append-
 use Rattle.valve_log.proofs.Formats.{in-format, starts}
 
 -- that 11 gives the page rules of entries too
-one-lawful : (kind : ℕ) → eqb kind 1 || eqb kind 4 ≡ true → (e : Entry) → (ltb (e .key) 32768 || eqb (e .val) 0) ≡ true → entryOk kind e ≡ true
-unfolding entryOk
+one-lawful : (kind : ℕ) → eqb kind 1 || eqb kind 4 ≡ true → (e : Entry) → entryAllowedBefore e ≡ true → entryOk kind e ≡ true
+unfolding entryAllowedBefore entryOk
 one-lawful kind k e h = by-cases (ltb (e .key) 32768) (λ q. rw q) (λ q. rw (q, k) (rw q at h))
 
 before-lawful : (kind : ℕ) → eqb kind 1 || eqb kind 4 ≡ true → (es : List Entry) → allowedBefore es ≡ true → all (entryOk kind) es ≡ true
 unfolding allowedBefore
-before-lawful kind k es h = all-weaken (λ (e : Entry). ltb (e .key) 32768 || eqb (e .val) 0) (entryOk kind) (one-lawful kind k) es h
+before-lawful kind k es h = all-weaken entryAllowedBefore (entryOk kind) (one-lawful kind k) es h
 
 -- ---- the step
 

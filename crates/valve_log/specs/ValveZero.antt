@@ -17,9 +17,13 @@ use Rattle.state.specs.State.{Pending, Held, countTests, doneFit, pendingFit, i
 use Rattle.calls.specs.Calls.{starting, zip, appendNeeds, flushNeeds, bufferNeeds}
 use Rattle.step.specs.Step.{Step, due, erasedFirst}
 
+-- an entry was allowed if it sets a valve, be it valve 0, or removes one with word 0
+unfoldable pub entryAllowedBefore : Entry → Bool
+entryAllowedBefore e = ltb (e .key) 32768 || eqb (e .val) 0
+
 -- 11 was the negation of this
 unfoldable pub allowedBefore : List Entry → Bool
-allowedBefore es = all (λ e. ltb (e .key) 32768 || eqb (e .val) 0) es
+allowedBefore es = all entryAllowedBefore es
 
 -- the conditions of a call, with that 11 of these entries
 unfoldable pub with11 : List Entry → List Need → List Need
