@@ -179,7 +179,7 @@ module _ (m : List ℕ) (b : Bytes m) (size : sizeOk (length m) ≡ true) where
           let e : k ≡ length m / 4096 = omega arith in
           last-not-refused (length m) size (stepsOn k (first m)) (subst (λ (i : ℕ). Erased (length m) i (stepsOn k (first m))) e (at k h)) j
 
-  under-way : (k : ℕ) → k ≤ length m / 4096 → Formatting (stepsOn k (first m))
+  pub under-way : (k : ℕ) → k ≤ length m / 4096 → Formatting (stepsOn k (first m))
   unfolding stepsOn
   under-way zero h = Formatting.begun m (formatting (length m / 4096)) fresh b (begun-there (length m) size)
   under-way (suc k) h = Formatting.next (stepsOn k (first m)) Event.step (under-way k (omega arith)) (unfold meanwhile in rw (not-over k (omega arith)))
