@@ -92,7 +92,7 @@ reached-tallied : (w : World) (h : History) (r : Reached w h) → Tallied (group
 unfolding groupsMade
 reached-tallied w h (Reached.start v F e) = start-tallied
 reached-tallied w h (Reached.next v g e r) = tell-tallied (groupsMade r) g (reached-tallied v g r) (happen v e .told)
-reached-tallied w h (Reached.takenOver v g b) = before-tallied v g b
+reached-tallied w h (Reached.takenOver {w = v} {h = g} b) = before-tallied v g b
 
 -- what was made up to a moment is the first part of what was made since
 pub record MadeSince (then made : List (List Entry)) : Type 0 where
@@ -110,7 +110,7 @@ unfolding groupsMade groupsMadeBefore
 made-since q w h r now = none-since (groupsMade q)
 made-since q w h r (earlier {w = w′} {h = h′} {r = r′} e p) = more-since (groupsCounting h′ (happen w′ e .told)) (made-since q w′ h′ r′ p)
 made-since q w h r (older {w = w′} {h = h′} {b = b} e p) =
-    more-since (groupsCounting h′ (happened w′ e .told)) (made-since q (switchedOff w′) h′ (Reached.takenOver w′ h′ b) p)
+    more-since (groupsCounting h′ (happened w′ e .told)) (made-since q (switchedOff w′) h′ (Reached.takenOver b) p)
 
 -- the log of that moment among all that was made since, and its settings
 module _ {then made : List (List Entry)} {g : History} (T : Tallied then g) (S : MadeSince then made) where

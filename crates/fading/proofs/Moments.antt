@@ -272,28 +272,24 @@ now-of {w} {h} r = record { world = w; history = h; reached = r; passed = now }
 abbrev onward-of : {w : World} {h : History} (r : Reached w h) (e : Event w) → MomentOf r → MomentOf (Reached.next w h e r)
 onward-of r e t = record { world = t .world; history = t .history; reached = t .reached; passed = earlier e (t .passed) }
 
--- the medium that the program before Paper 8 left
-abbrev taken : {w : World} {h : History} (b : Before w h) → Reached (switchedOff w) h
-taken {w} {h} b = Reached.takenOver w h b
-
-abbrev older-of : {w : World} {h : History} (b : Before w h) (e : Earlier w) → MomentOf (taken b) → MomentOf (taken (Before.next w h e b))
+abbrev older-of : {w : World} {h : History} (b : Before w h) (e : Earlier w) → MomentOf (Reached.takenOver b) → MomentOf (Reached.takenOver (Before.next w h e b))
 older-of b e t = record { world = t .world; history = t .history; reached = t .reached; passed = older e (t .passed) }
 
 abbrev pub mediumThen : {w : World} {h : History} (r : Reached w h) → MomentOf r → List ℕ
 mediumThen r t = t .world .medium
 
 -- a list has passed a moment at which the next serial was n
-pub moment-before : (w : World) (h : History) (b : Before w h) (n : ℕ) → 2 ≤ n → n ≤ nextSerial (views (w .medium)) → AtSerial (MomentOf (taken b)) (mediumThen (taken b)) (w .medium) n
-moment-before w h (Before.start v F f) n lo hi = at-now (now-of (taken (Before.start v F f))) n (let b = start-next v F f in omega arith)
+pub moment-before : (w : World) (h : History) (b : Before w h) (n : ℕ) → 2 ≤ n → n ≤ nextSerial (views (w .medium)) → AtSerial (MomentOf (Reached.takenOver b)) (mediumThen (Reached.takenOver b)) (w .medium) n
+moment-before w h (Before.start v F f) n lo hi = at-now (now-of (Reached.takenOver (Before.start v F f))) n (let b = start-next v F f in omega arith)
 moment-before w h (Before.next v g e b) n lo hi =
-    at-next (v .medium) (now-of (taken (Before.next v g e b))) (older-of b e) (λ x. refl) (happened-change (v .medium) (v .state) (v .buffer) g e (before-upheld v g b)) n
+    at-next (v .medium) (now-of (Reached.takenOver (Before.next v g e b))) (older-of b e) (λ x. refl) (happened-change (v .medium) (v .state) (v .buffer) g e (before-upheld v g b)) n
     (λ k. moment-before v g b n lo k) hi
 
 pub moment-of : (w : World) (h : History) (r : Reached w h) (n : ℕ) → 2 ≤ n → n ≤ nextSerial (views (w .medium)) → AtSerial (MomentOf r) (mediumThen r) (w .medium) n
 moment-of w h (Reached.start v F f) n lo hi = at-now (now-of (Reached.start v F f)) n (let b = start-next v F f in omega arith)
 moment-of w h (Reached.next v g e r) n lo hi =
     at-next (v .medium) (now-of (Reached.next v g e r)) (onward-of r e) (λ x. refl) (happen-change (v .medium) (v .state) (v .buffer) g e (reached-upheld v g r)) n (λ k. moment-of v g r n lo k) hi
-moment-of w h (Reached.takenOver v g b) n lo hi = moment-before v g b n lo hi
+moment-of w h (Reached.takenOver {w = v} {h = g} b) n lo hi = moment-before v g b n lo hi
 
 -- ---- from a moment on
 
@@ -302,7 +298,7 @@ along {v} q w h r now = along-now (v .medium)
 along {v} q w h r (earlier {w = w′} {h = h′} {r = r′} e p) =
     along-next (v .medium) (w′ .medium) (happen w′ e .after .medium) (happen-change (w′ .medium) (w′ .state) (w′ .buffer) h′ e (reached-upheld w′ h′ r′)) (along q w′ h′ r′ p)
 along {v} q w h r (older {w = w′} {h = h′} {b = b} e p) =
-    along-next (v .medium) (w′ .medium) (happened w′ e .after .medium) (happened-change (w′ .medium) (w′ .state) (w′ .buffer) h′ e (before-upheld w′ h′ b)) (along q (switchedOff w′) h′ (taken b) p)
+    along-next (v .medium) (w′ .medium) (happened w′ e .after .medium) (happened-change (w′ .medium) (w′ .state) (w′ .buffer) h′ e (before-upheld w′ h′ b)) (along q (switchedOff w′) h′ (Reached.takenOver b) p)
 
 -- a moment at which the list had passed the moment q
 pub record From {v : World} {g : History} (q : Reached v g) (w : World) (h : History) (r : Reached w h) : Type 0 where
@@ -320,6 +316,6 @@ moment-from q w h r (earlier {w = w′} {h = h′} {r = r′} e p) n lo hi =
     (λ t. record { moment = onward-of r′ e (t .moment); passed = t .passed }) (λ t. refl) (happen-change (w′ .medium) (w′ .state) (w′ .buffer) h′ e (reached-upheld w′ h′ r′)) n
     (λ k. moment-from q w′ h′ r′ p n lo k) hi
 moment-from q w h r (older {w = w′} {h = h′} {b = b} e p) n lo hi =
-    at-next {f = mediumFrom q (switchedOff w′) h′ (taken b)} {g = mediumFrom q w h r} (w′ .medium) (record { moment = now-of (taken (Before.next w′ h′ e b)); passed = older e p })
+    at-next {f = mediumFrom q (switchedOff w′) h′ (Reached.takenOver b)} {g = mediumFrom q w h r} (w′ .medium) (record { moment = now-of (Reached.takenOver (Before.next w′ h′ e b)); passed = older e p })
     (λ t. record { moment = older-of b e (t .moment); passed = t .passed }) (λ t. refl) (happened-change (w′ .medium) (w′ .state) (w′ .buffer) h′ e (before-upheld w′ h′ b)) n
-    (λ k. moment-from q (switchedOff w′) h′ (taken b) p n lo k) hi
+    (λ k. moment-from q (switchedOff w′) h′ (Reached.takenOver b) p n lo k) hi

@@ -51,7 +51,7 @@ groupsMadeBefore (Before.next w h e b) = groupsMadeBefore b ++ groupsCounting h 
 unfoldable pub groupsMade : {w : World} {h : History} → Reached w h → List (List Entry)
 groupsMade (Reached.start w F e) = []
 groupsMade (Reached.next w h e r) = groupsMade r ++ groupsCounting h (happen w e .told)
-groupsMade (Reached.takenOver w h b) = groupsMadeBefore b
+groupsMade (Reached.takenOver b) = groupsMadeBefore b
 
 -- ---- nothing that was not made, no order that did not occur
 

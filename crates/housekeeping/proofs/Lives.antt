@@ -382,4 +382,4 @@ before-places w h (Before.next v g e b) = earlier-places (v .medium) (v .state) 
 pub reached-places : (w : World) (h : History) → Reached w h → Placing (views (w .medium)) (w .state)
 reached-places w h (Reached.start v F e) = finished-places v F e
 reached-places w h (Reached.next v g e r) = event-places (v .medium) (v .state) (v .buffer) g e (reached-upheld v g r) (reached-ready v g r) (reached-places v g r)
-reached-places w h (Reached.takenOver v g b) = lost-state (before-places v g b)
+reached-places w h (Reached.takenOver {w = v} {h = g} b) = lost-state (before-places v g b)

@@ -54,8 +54,7 @@ now-of {x} {h} r = record { machine = x; history = h; run = r; passed = now }
 abbrev onward-of : {x z : Machine} {h : History} (r : Run x h) (e : Event (worldOf x)) (v : Moves x e z) → MomentOfRun r → MomentOfRun (Run.next x z h e r v)
 onward-of r e v t = record { machine = t .machine; history = t .history; run = t .run; passed = earlier e v (t .passed) }
 
-abbrev older-of : {w : World} {h : History} (b : Before w h) (e : Earlier w) → MomentOfRun (Run.takenOver w h b)
-    → MomentOfRun (Run.takenOver (happened w e .after) (tell h (happened w e .told)) (Before.next w h e b))
+abbrev older-of : {w : World} {h : History} (b : Before w h) (e : Earlier w) → MomentOfRun (Run.takenOver b) → MomentOfRun (Run.takenOver (Before.next w h e b))
 older-of b e t = record { machine = t .machine; history = t .history; run = t .run; passed = older e (t .passed) }
 
 abbrev mediumThen : {x : Machine} {h : History} (r : Run x h) → MomentOfRun r → List ℕ
@@ -72,10 +71,10 @@ happened-there : (w : World) (h : History) (e : Earlier w) → Before w h → Pa
 happened-there w h e b = happened-change (w .medium) (w .state) (w .buffer) h e (before-upheld w h b)
 
 moment-before : (w : World) (h : History) (b : Before w h) (n : ℕ) → 2 ≤ n → n ≤ nextSerial (views (w .medium))
-    → AtSerial (MomentOfRun (Run.takenOver w h b)) (mediumThen (Run.takenOver w h b)) (w .medium) n
-moment-before w h (Before.start v F f) n lo hi = at-now (now-of (Run.takenOver w h (Before.start v F f))) n (let b = start-next v F f in omega arith)
+    → AtSerial (MomentOfRun (Run.takenOver b)) (mediumThen (Run.takenOver b)) (w .medium) n
+moment-before w h (Before.start v F f) n lo hi = at-now (now-of (Run.takenOver (Before.start v F f))) n (let b = start-next v F f in omega arith)
 moment-before w h (Before.next v g e b) n lo hi =
-    at-next (v .medium) (now-of (Run.takenOver w h (Before.next v g e b))) (older-of b e) (λ x. refl) (happened-there v g e b) n (λ k. moment-before v g b n lo k) hi
+    at-next (v .medium) (now-of (Run.takenOver (Before.next v g e b))) (older-of b e) (λ x. refl) (happened-there v g e b) n (λ k. moment-before v g b n lo k) hi
 
 moment-of : (x : Machine) (h : History) (r : Run x h) (n : ℕ) → 2 ≤ n → n ≤ nextSerial (views (x .medium)) → AtSerial (MomentOfRun r) (mediumThen r) (x .medium) n
 moment-of x h (Run.start z y f v last) n lo hi =
@@ -84,7 +83,7 @@ moment-of x h (Run.start z y f v last) n lo hi =
     at-now (now-of (Run.start z y f v last)) n (omega arith)
 moment-of x h (Run.next z y k e r v) n lo hi =
     at-next (z .medium) (now-of (Run.next z y k e r v)) (onward-of r e v) (λ t. refl) (moved z y k e r v) n (λ l. moment-of z k r n lo l) hi
-moment-of x h (Run.takenOver w k b) n lo hi = moment-before w k b n lo hi
+moment-of x h (Run.takenOver {w = w} {h = k} b) n lo hi = moment-before w k b n lo hi
 
 -- ---- what is handed
 
@@ -189,13 +188,13 @@ run-tallied : (x : Machine) (h : History) (r : Run x h) → Tallied (groupsMadeB
 unfolding groupsMadeBy
 run-tallied x h (Run.start z y f v last) = start-tallied
 run-tallied x h (Run.next z y k e r v) = tell-tallied (groupsMadeBy r) k (run-tallied z k r) (toldBy z y e v)
-run-tallied x h (Run.takenOver w k b) = before-tallied w k b
+run-tallied x h (Run.takenOver {w = w} {h = k} b) = before-tallied w k b
 
 made-since : {y : Machine} {g : History} (q : Run y g) (x : Machine) (h : History) (r : Run x h) → RunAtOrBefore q x h r → MadeSince (groupsMadeBy q) (groupsMadeBy r)
 unfolding groupsMadeBy groupsMadeBefore
 made-since q x h r now = none-since (groupsMadeBy q)
 made-since q x h r (earlier {x = x′} {z = z} {h = h′} {r = r′} e v p) = more-since (groupsCounting h′ (toldBy x′ z e v)) (made-since q x′ h′ r′ p)
-made-since q x h r (older {w = w} {h = h′} {b = b} e p) = more-since (groupsCounting h′ (happened w e .told)) (made-since q (startingOn w) h′ (Run.takenOver w h′ b) p)
+made-since q x h r (older {w = w} {h = h′} {b = b} e p) = more-since (groupsCounting h′ (happened w e .told)) (made-since q (startingOn w) h′ (Run.takenOver b) p)
 
 -- what is handed depends on log and settings alone
 module _ (m : List ℕ) (g : History) where
@@ -231,7 +230,7 @@ along-run : {y : Machine} {g : History} (q : Run y g) (x : Machine) (h : History
 along-run {y} q x h r now = along-now (y .medium)
 along-run {y} q x h r (earlier {x = x′} {z = z} {h = h′} {r = r′} e v p) = along-next (y .medium) (x′ .medium) (z .medium) (moved x′ z h′ e r′ v) (along-run q x′ h′ r′ p)
 along-run {y} q x h r (older {w = w} {h = h′} {b = b} e p) =
-    along-next (y .medium) (w .medium) (happened w e .after .medium) (happened-there w h′ e b) (along-run q (startingOn w) h′ (Run.takenOver w h′ b) p)
+    along-next (y .medium) (w .medium) (happened w e .after .medium) (happened-there w h′ e b) (along-run q (startingOn w) h′ (Run.takenOver b) p)
 
 -- a moment at which the run had passed the moment q
 record From {y : Machine} {g : History} (q : Run y g) (x : Machine) (h : History) (r : Run x h) : Type 0 where
@@ -248,10 +247,10 @@ moment-from q x h r (earlier {x = x′} {z = z} {h = h′} {r = r′} e v p) n l
     at-next {f = mediumFrom q x′ h′ r′} {g = mediumFrom q x h r} (x′ .medium) (record { moment = now-of (Run.next x′ z h′ e r′ v); passed = earlier e v p })
     (λ t. record { moment = onward-of r′ e v (t .moment); passed = t .passed }) (λ t. refl) (moved x′ z h′ e r′ v) n (λ k. moment-from q x′ h′ r′ p n lo k) hi
 moment-from q x h r (older {w = w} {h = h′} {b = b} e p) n lo hi =
-    at-next {f = mediumFrom q (startingOn w) h′ (Run.takenOver w h′ b)} {g = mediumFrom q x h r} (w .medium)
-    (record { moment = now-of (Run.takenOver (happened w e .after) (tell h′ (happened w e .told)) (Before.next w h′ e b)); passed = older e p })
+    at-next {f = mediumFrom q (startingOn w) h′ (Run.takenOver b)} {g = mediumFrom q x h r} (w .medium)
+    (record { moment = now-of (Run.takenOver (Before.next w h′ e b)); passed = older e p })
     (λ t. record { moment = older-of b e (t .moment); passed = t .passed }) (λ t. refl) (happened-there w h′ e b) n
-    (λ k. moment-from q (startingOn w) h′ (Run.takenOver w h′ b) p n lo k) hi
+    (λ k. moment-from q (startingOn w) h′ (Run.takenOver b) p n lo k) hi
 
 -- the next serial of a state recovered
 serial-recovered : (m : List ℕ) (log : List (List Entry)) (s : Held) → recover (length m) (views m) ≡ gives (recoveryWith log s) → (a : Recovered) → Recovers m a

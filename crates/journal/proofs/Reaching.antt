@@ -198,8 +198,8 @@ runs-to w h (Reached.start w₀ F f) =
 runs-to w h (Reached.next w₀ h₀ e R) =
     let T = runs-to w₀ h₀ R in
     subst (λ (z : World). (e : Event z) → RunTo (happen z e .after) (tell h₀ (happen z e .told))) (T .is) (run-on (T .x) h₀ (T .run) (T .weak) (T .kept)) e
-runs-to w h (Reached.takenOver w₀ h₀ b) =
-    record { x = startingOn w₀; is = unfold meant in refl; run = Run.takenOver w₀ h₀ b; weak = λ k. false; kept = unfold meant Kept in tt }
+runs-to w h (Reached.takenOver {w = w₀} b) =
+    record { x = startingOn w₀; is = unfold meant in refl; run = Run.takenOver b; weak = λ k. false; kept = unfold meant Kept in tt }
 
 -- ---- the premise of the bound
 

@@ -29,7 +29,7 @@ run-since : (x : Machine) (h : History) (R : Run x h) → Since h (lastCommitted
 unfolding lastCommittedIn
 run-since x h (Run.start z y F v last) = start-since
 run-since x h (Run.next z y k e R v) = tell-since k (lastCommittedIn z k R) (toldBy z y e v) (run-since z k R)
-run-since x h (Run.takenOver w k b) = before-since w k b
+run-since x h (Run.takenOver {w = w} {h = k} b) = before-since w k b
 
 -- the whole log is a span of it
 whole-span : (log : List (List Entry)) → span 0 (length log) log ≡ log

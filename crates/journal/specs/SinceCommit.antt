@@ -21,7 +21,7 @@ use Rattle.journal.specs.Run.{Machine, toldBy, Run}
 unfoldable pub lastCommittedIn : (x : Machine) (h : History) → Run x h → List Setting
 lastCommittedIn x h (Run.start z y F v last) = []
 lastCommittedIn x h (Run.next z y k e R v) = settingsAtCommit (lastCommittedIn z k R) k (toldBy z y e v)
-lastCommittedIn x h (Run.takenOver w k b) = lastCommittedBefore w k b
+lastCommittedIn x h (Run.takenOver {w = w} {h = k} b) = lastCommittedBefore w k b
 
 -- Whatever the effect's call and recovery answer, of which nothing is known but the promise: the call answers of the history's log, so that 1 to 6 never
 -- refuse it; and what it answers of the whole log, where that is not 22, laid on some settings gives recovery's valves, each with the word at its address.

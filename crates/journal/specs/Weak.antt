@@ -21,7 +21,7 @@ weakInFormat weak x (Formatting.next z y e F v k) = weakAfter (worldOf z) e (wea
 unfoldable pub weakIn : Weak → (x : Machine) (h : History) → Run x h → Weak
 weakIn weak x h (Run.start z y F v last) = weakAfter (worldOf z) Event.step (weakInFormat weak z F)
 weakIn weak x h (Run.next z y k e R v) = weakAfter (worldOf z) e (weakIn weak z k R)
-weakIn weak x h (Run.takenOver w k b) = weak
+weakIn weak x h (Run.takenOver b) = weak
 
 -- Whatever a step answers, of which nothing is known but the promise: where it tells of a page (1 in `touched`), that page's block is not
 -- weak; whichever blocks were where formatting, or the run, began.

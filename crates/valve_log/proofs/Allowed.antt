@@ -139,4 +139,4 @@ start-allowed (some s) = record { gathers = none-buffered; appends = none-allowe
 pub reached-allowed : (w : World) (h : History) → Reached w h → StateAllowed (w .state) h
 reached-allowed w h (Reached.start v F e) = start-allowed (happen v Event.step .after .state)
 reached-allowed w h (Reached.next v g e r) = happen-allowed (v .medium) (v .state) (v .buffer) g e (reached-allowed v g r)
-reached-allowed w h (Reached.takenOver v g b) = unfold StateAllowed in tt
+reached-allowed w h (Reached.takenOver b) = unfold StateAllowed in tt

@@ -202,7 +202,7 @@ event-room m s b h (Event.cutInside left c) U r = cut-room (world m s b) left (s
 reached-room : (w : World) (h : History) → Reached w h → WorldRoom w h
 reached-room w h (Reached.start v F e) = room-none _ _ _ refl
 reached-room w h (Reached.next v g e R) = event-room (v .medium) (v .state) (v .buffer) g e (reached-upheld v g R) (reached-room v g R)
-reached-room w h (Reached.takenOver v g b) = unfold StateRoom in tt
+reached-room w h (Reached.takenOver b) = unfold StateRoom in tt
 
 -- ---- the flush
 

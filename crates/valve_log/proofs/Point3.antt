@@ -22,7 +22,7 @@ use Rattle.valve_log.proofs.ValveZero.{before-upheld}
 pub reached-upheld : (w : World) (h : History) → Reached w h → Upheld w h
 reached-upheld w h (Reached.start v F e) = starts (v .medium) (v .buffer) (v .state) (in-format v F) e .upheld
 reached-upheld w h (Reached.next v g e r) = happen-good (v .medium) (v .state) (v .buffer) g e (reached-upheld v g r)
-reached-upheld w h (Reached.takenOver v g b) = cut-good (v .medium) (v .state) (v .buffer) fresh g (before-upheld v g b)
+reached-upheld w h (Reached.takenOver {w = v} {h = g} b) = cut-good (v .medium) (v .state) (v .buffer) fresh g (before-upheld v g b)
 
 -- the words of a sound index, place by place
 words-of : (v : List View) (l : List Place) → sound v l ≡ true → Words v l (words v l)

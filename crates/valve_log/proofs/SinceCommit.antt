@@ -168,7 +168,7 @@ reached-since : (w : World) (h : History) (r : Reached w h) → Since h (lastCom
 unfolding lastCommitted
 reached-since w h (Reached.start v F e) = start-since
 reached-since w h (Reached.next v g e r) = tell-since g (lastCommitted v g r) (happen v e .told) (reached-since v g r)
-reached-since w h (Reached.takenOver v g b) = before-since v g b
+reached-since w h (Reached.takenOver {w = v} {h = g} b) = before-since v g b
 
 pub effect-explains : EffectExplains
 unfolding EffectExplains Point3

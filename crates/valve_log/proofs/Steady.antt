@@ -275,7 +275,7 @@ before-ready w h (Before.next v g e b) = earlier-ready (v .medium) (v .state) (v
 pub reached-ready : (w : World) (h : History) → Reached w h → StateReady (views (w .medium)) (w .state)
 reached-ready w h (Reached.start v F e) = finished-ready v F e
 reached-ready w h (Reached.next v g e r) = event-ready (v .medium) (v .state) (v .buffer) g e (reached-upheld v g r) (reached-ready v g r)
-reached-ready w h (Reached.takenOver v g b) = unfold StateReady in tt
+reached-ready w h (Reached.takenOver b) = unfold StateReady in tt
 
 -- ---- what the calls answer
 

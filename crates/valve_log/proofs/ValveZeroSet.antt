@@ -91,7 +91,7 @@ module _ (m : List ℕ) (e : List Bool) (word : ℕ) (small : word < 2 ^ 64) (lo
       subst (λ (t : Moment). Before (t .after) (tell noHistory (t .told))) appended-is (Before.next first noHistory appending b) in
       let b₂ = subst (λ (t : Moment). Before (t .after) (tell (tell noHistory (beganAppend (zeroTo word))) (t .told))) stepped-is
       (Before.next (world m (some (begun word e)) fresh) (tell noHistory (beganAppend (zeroTo word))) Earlier.step b₁) in
-      record { world = _; reached = subst (Reached _) told-is (Reached.takenOver _ _ b₂) }
+      record { world = _; reached = subst (Reached _) told-is (Reached.takenOver b₂) }
 
 size-of : (n : ℕ) → n ≡ 16384 → sizeOk n ≡ true
 unfolding sizeOk every

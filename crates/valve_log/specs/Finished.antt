@@ -34,8 +34,8 @@ pub record Finished (m : List ℕ) : Type 0 where
 unfoldable pub FormattingFinishes : Type 0
 FormattingFinishes = (m : List ℕ) → Bytes m → sizeOk (length m) ≡ true → Finished m
 
--- A list leads to a medium that the program as it was before Paper 8 left, whose log has one group, which set valve 0 to this word: nothing else is set,
--- and nothing is under way or buffered.
+-- A list leads to a medium that the program as it was before Paper 8 left, whose log has one group, which set valve 0 to this word: nothing
+-- else is set, and nothing is under way or buffered.
 pub record HoldsValveZero (word : ℕ) : Type 0 where
   pub world : World
   pub reached : Reached world (history (cell 0 word ∷ []) ((cell 0 word ∷ []) ∷ []) nothing [])

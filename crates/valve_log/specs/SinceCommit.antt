@@ -46,7 +46,7 @@ lastCommittedBefore w h (Before.next v g e b) = settingsAtCommit (lastCommittedB
 unfoldable pub lastCommitted : (w : World) (h : History) → Reached w h → List Setting
 lastCommitted w h (Reached.start v F e) = []
 lastCommitted w h (Reached.next v g e r) = settingsAtCommit (lastCommitted v g r) g (happen v e .told)
-lastCommitted w h (Reached.takenOver v g b) = lastCommittedBefore v g b
+lastCommitted w h (Reached.takenOver {w = v} {h = g} b) = lastCommittedBefore v g b
 
 -- Recovery is accepted, and the effect of its whole log, laid on some settings, gives its valves, each with the word at its address.
 pub record Explains (m : List ℕ) (before : List Setting) : Type 0 where

@@ -1,6 +1,6 @@
--- "Media that hold it recover, list and commit it as before until it is removed" (Paper 8): the calls of the program as it was before Paper 8, where they differ
--- from today's. Then 11 was 01's alone: "removal whose word isn't 0". An append asked it, a group put into the buffer, a flush, and through 7 a step.
--- Where any other call finds an operation pending it is refused, today as then, so that it leads to the same.
+-- "Media that hold it recover, list and commit it as before until it is removed" (Paper 8): the calls of the program as it was before
+-- Paper 8, where they differ from today's. Then 11 was 01's alone: "removal whose word isn't 0". An append asked it, a group put into the
+-- buffer, a flush, and through 7 a step. Any other call that finds an operation pending is refused, now by 7 and then by 8, and changes nothing.
 use mathlib.Core.Bool.{Bool, true, false, not, cond, _||_}
 use mathlib.Core.List.{List, [], _∷_, _++_}
 use Prim.Native.Nat.{ℕ}

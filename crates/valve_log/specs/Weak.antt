@@ -49,7 +49,7 @@ weakInFormat weak w (Formatting.next v e F k) = weakAfter v e (weakInFormat weak
 unfoldable pub weakIn : Weak → (w : World) (h : History) → Reached w h → Weak
 weakIn weak w h (Reached.start v F e) = weakAfter v Event.step (weakInFormat weak v F)
 weakIn weak w h (Reached.next v g e R) = weakAfter v e (weakIn weak v g R)
-weakIn weak w h (Reached.takenOver v g b) = weak
+weakIn weak w h (Reached.takenOver b) = weak
 
 -- Where the step due programs a page, in formatting or after it, the page's block is not weak; whichever blocks were where the list began.
 pub record NeverWeak : Type 0 where
