@@ -2,16 +2,19 @@
 -- refuses with.
 use mathlib.Core.Path.{_≡_}
 use mathlib.Core.List.{List, [], _∷_, _++_}
-use Prim.Native.Nat.{ℕ, _-_}
-use lib.ListN.{take, set, replicate}
+use Prim.Native.Nat.{ℕ, _+_, _-_, _*_, _≤_}
+use lib.ListN.{length, take, set, replicate}
+use Rattle.lists.specs.Lists.{Bytes}
 use Rattle.lists.specs.Needs.{Answer, refused, gives, andThen}
 use Rattle.lists.specs.Cells.{cell, Entry, Setting}
 use Rattle.page.specs.Pages.{View, clean, spoilt, whole, page}
 use Rattle.page.specs.Layout.{encode, viewOf}
 use Rattle.page.specs.Buffer.{groupsPage}
-use Rattle.flash.specs.Medium.{seen}
+use Rattle.codec.specs.Codec.{putAt}
+use Rattle.flash.specs.Medium.{pageAt, views, seen}
 use Rattle.nodes.specs.Nodes.{words}
 use Rattle.recovery.specs.Recovery.{recover as recoverOf}
+use Rattle.fading.specs.Fading.{Faded}
 
 -- ---- what is shown
 
@@ -50,9 +53,22 @@ bytesOfPage clean = []
 bytesOfPage spoilt = []
 bytesOfPage (whole pg) = encode pg
 
--- the same pages, and then byte i of page p has faded and is x
-abbrev pub fadedByte : ℕ → ℕ → ℕ → List View → List View
-fadedByte p i x v = set v p (viewOf (set (bytesOfPage (seen v p)) i x))
+-- the bytes of page p, of which byte i is then x
+abbrev pub bytesWith : ℕ → ℕ → ℕ → List View → List ℕ
+bytesWith p i x v = set (bytesOfPage (seen v p)) i x
+
+-- byte i of page p fades to x, some of its bits turned to 1 and nothing else altered; and of these pages recovery then gives this
+pub record FadedGives (p i x : ℕ) (v : List View) (answer : Answer LogAndSettings) : Type 0 where
+  pub faded : Faded (bytesOfPage (seen v p)) (bytesWith p i x v)
+  pub shows : shownOf (set v p (viewOf (bytesWith p i x v))) ≡ answer
+
+-- What has faded on a page has faded on the medium, whose pages are then as above: page p of m has faded, and its bytes are then s.
+pub record FadedThere (m : List ℕ) (p : ℕ) (s : List ℕ) : Type 0 where
+  pub faded : Faded m (putAt m (256 * p) s)
+  pub pages : views (putAt m (256 * p) s) ≡ set (views m) p (viewOf s)
+
+unfoldable pub PageFades : Type 0
+PageFades = (m : List ℕ) (p : ℕ) (s : List ℕ) → Bytes m → 256 * p + 256 ≤ length m → Faded (pageAt m p) s → FadedThere m p s
 
 -- ---- the table
 
@@ -66,18 +82,18 @@ pub record FadedExamples : Type 0 where
   -- The newest page, serial 3, with a bit of the serial turned to 1, so that it is 7: the moment before. And so with a bit of the check's high byte;
   -- with the flags 3 turned to 255; where it is of kind 4, serial 5 turned to 7; and where it is the base, serial 4 turned to 5, with the log from
   -- before the commit.
-  pub newest-gone : shownOf (fadedByte 2 8 7 (written 3)) ≡ shownOf (written 2)
-  pub check-gone : shownOf (fadedByte 2 1 1 (written 3)) ≡ shownOf (written 2)
-  pub flags-gone : shownOf (fadedByte 2 3 255 (written 3)) ≡ shownOf (written 2)
-  pub flush-gone : shownOf (fadedByte 4 8 7 (written 5)) ≡ shownOf (written 4)
-  pub older-base : shownOf (fadedByte 3 8 5 (written 4)) ≡ shownOf (written 3)
+  pub newest-gone : FadedGives 2 8 7 (written 3) (shownOf (written 2))
+  pub check-gone : FadedGives 2 1 1 (written 3) (shownOf (written 2))
+  pub flags-gone : FadedGives 2 3 255 (written 3) (shownOf (written 2))
+  pub flush-gone : FadedGives 4 8 7 (written 5) (shownOf (written 4))
+  pub older-base : FadedGives 3 8 5 (written 4) (shownOf (written 3))
   -- A page between, valve 5 turned to 7: a gap. And so where the base has faded under a newer page.
-  pub gap : shownOf (fadedByte 1 16 7 (written 3)) ≡ refused 5
-  pub base-gone : shownOf (fadedByte 3 8 5 (written 5)) ≡ refused 5
+  pub gap : FadedGives 1 16 7 (written 3) (refused 5)
+  pub base-gone : FadedGives 3 8 5 (written 5) (refused 5)
   -- the only base, serial 1 turned to 3
-  pub no-base : shownOf (fadedByte 0 8 3 (written 3)) ≡ refused 4
+  pub no-base : FadedGives 0 8 3 (written 3) (refused 4)
   -- a page older than the base: today's where no address of the index leads there; 6 where one does
-  pub not-needed : shownOf (fadedByte 2 8 7 (written 5)) ≡ shownOf (written 5)
-  pub node-gone : shownOf (fadedByte 1 16 7 (written 4)) ≡ refused 6
+  pub not-needed : FadedGives 2 8 7 (written 5) (shownOf (written 5))
+  pub node-gone : FadedGives 1 16 7 (written 4) (refused 6)
   -- the same page after the flush has set valve 7 anew: no address leads there any more
-  pub node-replaced : shownOf (fadedByte 1 16 7 (written 5)) ≡ shownOf (written 5)
+  pub node-replaced : FadedGives 1 16 7 (written 5) (shownOf (written 5))

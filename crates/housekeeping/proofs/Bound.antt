@@ -33,10 +33,11 @@ use Rattle.valve_log.proofs.Supply.{Witness, count-witness, spare-is}
 use Rattle.valve_log.proofs.Ready.{sound-part, no-room}
 use Rattle.valve_log.proofs.Events.{no-groups}
 use Rattle.dispatcher.specs.Dispatch.{greatestSerial, endsBase, newer, Next, naming, collection, roomMaker, answers13, nextOf}
-use Rattle.housekeeping.specs.Bound.{Finishes, namedIn, appendIn, lets-in, commits, collects, commitsIn, collectionsIn, Bounded, Bound, Sharper, SmallGroups}
+use Rattle.housekeeping.specs.Bound.{Finishes, namedIn, appendIn, Leads, here, commits, collects, commitsIn, collectionsIn, Bounded, Suffice, Meets13, Bound, Sharper, Sixteen, SmallGroups}
 use Rattle.housekeeping.proofs.Counting.{count-two, Two, two, One, one, live-two, live-few}
 use Rattle.housekeeping.proofs.Picking.{Named, names}
 use Rattle.housekeeping.proofs.Places.{InTwo}
+use Rattle.housekeeping.proofs.Only.{none-stops}
 use Rattle.housekeeping.proofs.Runs.{Known, known, alives, fits-fresh, bound as serials-bound, four, index-few}
 use Rattle.housekeeping.proofs.Runs.{index-sound, serials-known, Frame, CommitDone, commit-runs, append-runs, CollectDone, collect-runs}
 
@@ -145,28 +146,29 @@ module _ {m : List ℕ} {s : Held} {h : History} (K : Known m s h) (rests : s .p
   unfolding appendOf under
   append-full o a = rw (K .upheld .size, fits-fresh K, is-idle, none-buffered, o .lists, o .allowed, o .withins, a)
 
-  commit-begins : basePages (length (s .index)) ≤ available (views m) (s .head) → s .head .serial + basePages (length (s .index)) ≤ 2 ^ 64 - 1
+  append-short : Offer s ks ws → roomFor (views m) (s .head) (pagesFor (length ks) + 16) ≡ true → serialsFor (s .head) (pagesFor (length ks)) ≡ false
+      → appendOf (length m) (views m) s fresh ks ws ≡ refused 14
+  unfolding appendOf under
+  append-short o a b = rw (K .upheld .size, fits-fresh K, is-idle, none-buffered, o .lists, o .allowed, o .withins, a, b)
+
+  commit-begins : basePages (length (s .index)) ≤ available (views m) (s .head) → serialsFor (s .head) (basePages (length (s .index))) ≡ true
       → commitOf (length m) (views m) s fresh ≡ gives (starting s (commit 0))
   unfolding commitOf
   commit-begins a b =
       checked-pass (commitNeeds (length m) (views m) s fresh) (gives (starting s (commit 0)))
-      (unfold every tests roomFor serialsFor in rw (
-        K .upheld .size,
-        fits-fresh K,
-        is-idle,
-        none-buffered,
-        le-leb (basePages (length (s .index))) (available (views m) (s .head)) a,
-        le-leb
-            (s .head .serial + basePages (length (s .index))) (2 ^ 64 - 1) b,
-      ))
+      (unfold every tests roomFor in rw (K .upheld .size, fits-fresh K, is-idle, none-buffered, le-leb (basePages (length (s .index))) (available (views m) (s .head)) a, b))
+
+  commit-short : basePages (length (s .index)) ≤ available (views m) (s .head) → serialsFor (s .head) (basePages (length (s .index))) ≡ false
+      → commitOf (length m) (views m) s fresh ≡ refused 14
+  unfolding commitOf under roomFor
+  commit-short a b = rw (K .upheld .size, fits-fresh K, is-idle, none-buffered, le-leb (basePages (length (s .index))) (available (views m) (s .head)) a, b)
 
   collect-begins : (b : ℕ) → collectible (views m) (s .head) b ≡ true → pagesFor (length (live (s .index) b)) ≤ available (views m) (s .head)
-      → s .head .serial + pagesFor (length (live (s .index) b)) ≤ 2 ^ 64 - 1
-      → collectOf (length m) (views m) s fresh b ≡ gives (starting s (collect b))
+      → serialsFor (s .head) (pagesFor (length (live (s .index) b))) ≡ true → collectOf (length m) (views m) s fresh b ≡ gives (starting s (collect b))
   unfolding collectOf
   collect-begins b c a r =
       checked-pass (collectNeeds (length m) (views m) s fresh b) (gives (starting s (collect b)))
-      (unfold every tests roomFor serialsFor in
+      (unfold every tests roomFor in
       rw (
         K .upheld .size,
         fits-fresh K,
@@ -175,14 +177,44 @@ module _ {m : List ℕ} {s : Held} {h : History} (K : Known m s h) (rests : s .p
         c,
         sound-part (views m) (s .index) (live (s .index) b) (index-sound K) (λ x i. in-live (s .index) b i),
         le-leb (pagesFor (length (live (s .index) b))) (available (views m) (s .head)) a,
-        le-leb (s .head .serial + pagesFor (length (live (s .index) b))) (2 ^ 64 - 1) r,
+        r,
       ))
+
+  collect-short : (b : ℕ) → collectible (views m) (s .head) b ≡ true → pagesFor (length (live (s .index) b)) ≤ available (views m) (s .head)
+      → serialsFor (s .head) (pagesFor (length (live (s .index) b))) ≡ false → collectOf (length m) (views m) s fresh b ≡ refused 14
+  unfolding collectOf under roomFor
+  collect-short b c a r =
+      rw (
+        K .upheld .size,
+        fits-fresh K,
+        is-idle,
+        none-buffered,
+        c,
+        sound-part (views m) (s .index) (live (s .index) b) (index-sound K) (λ x i. in-live (s .index) b i),
+        le-leb (pagesFor (length (live (s .index) b))) (available (views m) (s .head)) a,
+        r,
+      )
 
 -- ---- what the dispatcher names
 
 next-append : (m : List ℕ) (s s′ : Held) (ks ws : List ℕ) → appendOf (length m) (views m) s fresh ks ws ≡ gives s′ → namedIn (world m (some s) fresh) ks ws ≡ gives Next.append
 unfolding namedIn withState nextOf answers13 andThen naming
 next-append m s s′ ks ws e = rw e
+
+next-append-14 : (m : List ℕ) (s : Held) (ks ws : List ℕ) → appendOf (length m) (views m) s fresh ks ws ≡ refused 14 → namedIn (world m (some s) fresh) ks ws ≡ refused 14
+unfolding namedIn withState nextOf answers13 andThen naming
+next-append-14 m s ks ws e = rw e
+
+next-commit-14 : (m : List ℕ) (s : Held) (ks ws : List ℕ) → appendOf (length m) (views m) s fresh ks ws ≡ refused 13 → newer (views m) ≡ true
+    → commitOf (length m) (views m) s fresh ≡ refused 14 → namedIn (world m (some s) fresh) ks ws ≡ refused 14
+unfolding namedIn withState nextOf answers13 andThen naming roomMaker
+next-commit-14 m s ks ws e a c = rw (e, a, c)
+
+next-collect-14 : (m : List ℕ) (s : Held) (ks ws : List ℕ) (b : ℕ) → appendOf (length m) (views m) s fresh ks ws ≡ refused 13 → newer (views m) ≡ false
+    → pickBelow (views m) (s .head) (s .index) (s .head .blocks) ≡ some b
+    → collectOf (length m) (views m) s fresh b ≡ refused 14 → namedIn (world m (some s) fresh) ks ws ≡ refused 14
+unfolding namedIn withState nextOf answers13 andThen naming roomMaker collection
+next-collect-14 m s ks ws b e a p c = rw (e, a, p, c)
 
 next-commit : (m : List ℕ) (s s′ : Held) (ks ws : List ℕ) → appendOf (length m) (views m) s fresh ks ws ≡ refused 13 → newer (views m) ≡ true
     → commitOf (length m) (views m) s fresh ≡ gives s′ → namedIn (world m (some s) fresh) ks ws ≡ gives Next.commit
@@ -218,27 +250,69 @@ module _ {m : List ℕ} {s : Held} {h : History} (K : Known m s h) where
 
 -- a bound holds where a lower one does
 wider : {ks ws : List ℕ} {a b c d : ℕ} {w : World} → Bounded ks ws a b w → a ≤ c → b ≤ d → Bounded ks ws c d w
-wider B p q = record { operations = B .operations; end = B .end; few-commits = omega (arith, B .few-commits); few-collections = omega (arith, B .few-collections); admits = B .admits }
+wider B p q = record { operations = B .operations; end = B .end; few-commits = omega (arith, B .few-commits); few-collections = omega (arith, B .few-collections); admits = B .admits; history = B .history; reached = B .reached; in-log = B .in-log }
 
 -- one commit more
 commit-first : {ks ws : List ℕ} {a b : ℕ} (w w′ : World) → namedIn w ks ws ≡ gives Next.commit → Finishes (happen w Event.commit .after) w′ → Bounded ks ws a b w′ → Bounded ks ws (suc a) b w
 unfolding commitsIn collectionsIn
 commit-first w w′ n F B =
-    record { operations = Next.commit ∷ B .operations; end = B .end; few-commits = omega (arith, B .few-commits); few-collections = B .few-collections; admits = commits w w′ (B .end) n F (B .admits) }
+    let A = B .admits in
+    record {
+      operations = Next.commit ∷ B .operations;
+      end = B .end;
+      few-commits = omega (arith, B .few-commits);
+      few-collections = B .few-collections;
+      admits = record { before = A .before; leads = commits w w′ (A .before) n F (A .leads); named = A .named; begun = A .begun; begins = A .begins; finishes = A .finishes };
+      history = B .history;
+      reached = B .reached;
+      in-log = B .in-log;
+    }
 
 -- one collection more
 collect-first : {ks ws : List ℕ} {a b : ℕ} (w w′ : World) (x : ℕ) → namedIn w ks ws ≡ gives (Next.collect x) → Finishes (happen w (Event.collect x) .after) w′ → Bounded ks ws a b w′
     → Bounded ks ws a (suc b) w
 unfolding commitsIn collectionsIn
 collect-first w w′ x n F B =
+    let A = B .admits in
     record {
       operations = Next.collect x ∷ B .operations;
       end = B .end;
       few-commits = B .few-commits;
       few-collections = omega (arith, B .few-collections);
-      admits =
-          collects w w′ (B .end) x n F (B .admits);
+      admits = record { before = A .before; leads = collects w w′ (A .before) x n F (A .leads); named = A .named; begun = A .begun; begins = A .begins; finishes = A .finishes };
+      history = B .history;
+      reached = B .reached;
+      in-log = B .in-log;
     }
+
+-- ---- or serials run out
+
+-- the dispatcher answers 14 somewhere on the way, and that only where the serials do not reach t
+pub record Stopped (ks ws : List ℕ) (t : ℕ) (w : World) : Type 0 where
+  pub operations : List Next
+  pub end : World
+  pub leads : Leads ks ws operations w end
+  pub named : namedIn end ks ws ≡ refused 14
+  pub short : 2 ^ 64 - 1 < t
+
+abbrev Comes : List ℕ → List ℕ → ℕ → ℕ → ℕ → World → Type 0
+Comes ks ws t a b w = Bounded ks ws a b w ⊎ Stopped ks ws t w
+
+stops : {ks ws : List ℕ} {t a b : ℕ} (w : World) → namedIn w ks ws ≡ refused 14 → 2 ^ 64 - 1 < t → Comes ks ws t a b w
+stops w n k = inr (record { operations = []; end = w; leads = here w; named = n; short = k })
+
+comes-wider : {ks ws : List ℕ} {t a b c d : ℕ} {w : World} → Comes ks ws t a b w → a ≤ c → b ≤ d → Comes ks ws t c d w
+comes-wider (inl B) p q = inl (wider B p q)
+comes-wider (inr S) p q = inr S
+
+commit-then : {ks ws : List ℕ} {t a b : ℕ} (w w′ : World) → namedIn w ks ws ≡ gives Next.commit → Finishes (happen w Event.commit .after) w′ → Comes ks ws t a b w′ → Comes ks ws t (suc a) b w
+commit-then w w′ n F (inl B) = inl (commit-first w w′ n F B)
+commit-then w w′ n F (inr S) = inr (record { operations = Next.commit ∷ S .operations; end = S .end; leads = commits w w′ (S .end) n F (S .leads); named = S .named; short = S .short })
+
+collect-then : {ks ws : List ℕ} {t a b : ℕ} (w w′ : World) (x : ℕ) → namedIn w ks ws ≡ gives (Next.collect x) → Finishes (happen w (Event.collect x) .after) w′ → Comes ks ws t a b w′
+    → Comes ks ws t a (suc b) w
+collect-then w w′ x n F (inl B) = inl (collect-first w w′ x n F B)
+collect-then w w′ x n F (inr S) = inr (record { operations = Next.collect x ∷ S .operations; end = S .end; leads = collects w w′ (S .end) x n F (S .leads); named = S .named; short = S .short })
 
 -- ---- the group is let in
 
@@ -255,24 +329,50 @@ zip-pages ks ws e =
     let z : pagesFor (length (zip ks ws)) ≡ pagesFor (length ks) = ap pagesFor (zip-length ks ws (same-lengths ks ws e)) in
     omega (arith, z, some-page ks ws e)
 
-module _ (ks ws : List ℕ) (narrow : Below (2 ^ 16) ks) (small : Below (2 ^ 64) ws) where
+serials-true : (h : Head) (n : ℕ) → serialsFor h n ≡ true → h .serial + n ≤ 2 ^ 64 - 1
+unfolding serialsFor
+serials-true h n e = leb-true (h .serial + n) (2 ^ 64 - 1) e
+
+serials-false : (h : Head) (n : ℕ) → serialsFor h n ≡ false → 2 ^ 64 - 1 < h .serial + n
+unfolding serialsFor
+serials-false h n e = leb-false (h .serial + n) (2 ^ 64 - 1) e
+
+module _ (ks ws : List ℕ) (narrow : Below (2 ^ 16) ks) (small : Below (2 ^ 64) ws) (t : ℕ) where
   admit-now : {m : List ℕ} {s : Held} {h : History} (K : Known m s h) → s .pending ≡ idle → Offer s ks ws → pagesFor (length ks) + 16 ≤ available (views m) (s .head)
-      → s .head .serial + 4 ≤ 2 ^ 64 - 1 → Bounded ks ws 0 0 (world m (some s) fresh)
+      → s .head .serial + 4 ≤ t → Comes ks ws t 0 0 (world m (some s) fresh)
   admit-now {m} {s} {h} K e o room serials =
-      let p = few-pages ks ws (o .lists) in
-      let a = append-begins K e ks ws o (unfold roomFor in le-leb (pagesFor (length ks) + 16) (available (views m) (s .head)) room)
-      (unfold serialsFor in le-leb (s .head .serial + pagesFor (length ks)) (2 ^ 64 - 1) (omega arith)) in
-      let K₁ =
-      knows-begun K (starting s (append (zip ks ws) [])) (Event.append ks ws narrow small) (beganAppend (zip ks ws)) (append-begun K ks ws narrow small (starting s (append (zip ks ws) [])) a) in
-      let D = append-runs (pagesFor (length ks) - 1) K₁ (zip ks ws) [] refl (zip-pages ks ws (o .lists)) (omega (arith, some-page ks ws (o .lists))) (omega (arith, some-page ks ws (o .lists))) in
-      record {
-        operations = [];
-        end = D .end;
-        few-commits = unfold commitsIn in omega arith;
-        few-collections = unfold collectionsIn in omega arith;
-        admits =
-            lets-in (world m (some s) fresh) (D .end) (starting s (append (zip ks ws) [])) (next-append m s (starting s (append (zip ks ws) [])) ks ws a) (unfold appendIn withState in a) (D .run);
-      }
+      by-cases (serialsFor (s .head) (pagesFor (length ks))) (λ q. inl (goes q))
+      (λ q. stops (world m (some s) fresh) (next-append-14 m s ks ws (append-short K e ks ws o has-room q)) (omega (arith, serials-false (s .head) (pagesFor (length ks)) q, few-pages ks ws (o .lists))))
+    where
+      has-room : roomFor (views m) (s .head) (pagesFor (length ks) + 16) ≡ true
+      has-room = unfold roomFor in le-leb (pagesFor (length ks) + 16) (available (views m) (s .head)) room
+
+      goes : serialsFor (s .head) (pagesFor (length ks)) ≡ true → Bounded ks ws 0 0 (world m (some s) fresh)
+      goes q =
+          let a = append-begins K e ks ws o has-room q in
+          let K₁ =
+          knows-begun K (starting s (append (zip ks ws) [])) (Event.append ks ws narrow small) (beganAppend (zip ks ws)) (append-begun K ks ws narrow small (starting s (append (zip ks ws) [])) a) in
+          let D =
+          append-runs (pagesFor (length ks) - 1) K₁ (zip ks ws) [] refl (zip-pages ks ws (o .lists)) (omega (arith, some-page ks ws (o .lists)))
+          (omega (arith, some-page ks ws (o .lists), serials-true (s .head) (pagesFor (length ks)) q)) in
+          record {
+            operations = [];
+            end = D .end;
+            few-commits = unfold commitsIn in omega arith;
+            few-collections = unfold collectionsIn in omega arith;
+            admits =
+                record {
+                  before = world m (some s) fresh;
+                  leads = here (world m (some s) fresh);
+                  named = next-append m s (starting s (append (zip ks ws) [])) ks ws a;
+                  begun = starting s (append (zip ks ws) []);
+                  begins = unfold appendIn withState in a;
+                  finishes = D .run;
+                };
+            history = D .history;
+            reached = D .reached;
+            in-log = D .in-log;
+          }
 
   keys-shown : {m : List ℕ} {s : Held} {h : History} (K : Known m s h) → keysOf (s .index) ≡ keysOf (h .settings)
   keys-shown {m} K = ap keysOf (alives K .indices) ∙ sym (keys-words (views m) (K .upheld .coupled .idx)) ∙ ap keysOf (K .upheld .coupled .medium .shows)
@@ -280,24 +380,33 @@ module _ (ks ws : List ℕ) (narrow : Below (2 ^ 16) ks) (small : Below (2 ^ 64)
   -- one collection suffices
   collect-once : {m : List ℕ} {s : Held} {h : History} (K : Known m s h) → s .pending ≡ idle → Offer s ks ws → appendOf (length m) (views m) s fresh ks ws ≡ refused 13 → newer (views m) ≡ false
       → (b j : ℕ) → pickBelow (views m) (s .head) (s .index) (s .head .blocks) ≡ some b → collectible (views m) (s .head) b ≡ true
-      → pagesFor (length (live (s .index) b)) ≤ j → j ≤ available (views m) (s .head) → pagesFor (length ks) + j ≤ available (views m) (s .head) → s .head .serial + (j + 4) ≤ 2 ^ 64 - 1
-      → Bounded ks ws 0 1 (world m (some s) fresh)
+      → pagesFor (length (live (s .index) b)) ≤ j → j ≤ available (views m) (s .head) → pagesFor (length ks) + j ≤ available (views m) (s .head) → s .head .serial + (j + 4) ≤ t
+      → Comes ks ws t 0 1 (world m (some s) fresh)
   collect-once {m} {s} {h} K e o full13 settled b j picks fit few room gains serials =
-      let c = collect-begins K e ks ws b fit (omega arith) (omega arith) in
-      let ev = collect-begun K b (starting s (collect b)) c in
-      let K₁ = knows-begun K (starting s (collect b)) (Event.collect b) beganCollect ev in
-      let D = collect-runs j K₁ b refl (unfold tell in refl) few (omega arith) in
-      let B = admit-now (D .knows) (D .rests) (offers D) (omega (arith, D .supply)) (omega (arith, D .serials)) in
-      collect-first (world m (some s) fresh) (world (D .m′) (some (D .s′)) fresh) b (next-collect m s (starting s (collect b)) ks ws b full13 settled picks c)
-      (subst (λ (x : Moment). Finishes (x .after) (world (D .m′) (some (D .s′)) fresh)) (sym ev) (D .run)) B
+      by-cases (serialsFor (s .head) (pagesFor (length (live (s .index) b)))) (λ q. goes q)
+      (λ q. stops (world m (some s) fresh) (next-collect-14 m s ks ws b full13 settled picks (collect-short K e ks ws b fit (omega arith) q))
+      (omega (arith, serials-false (s .head) (pagesFor (length (live (s .index) b))) q)))
     where
-      offers : (D : CollectDone m (starting s (collect b)) (tell h beganCollect) j) → Offer (D .s′) ks ws
+      k : ℕ
+      k = pagesFor (length (live (s .index) b))
+
+      offers : (D : CollectDone m (starting s (collect b)) (tell h beganCollect) k) → Offer (D .s′) ks ws
       offers D =
           record {
             lists = o .lists;
             allowed = o .allowed;
             withins = within-same (D .s′ .index) (s .index) (zip ks ws) (zip ks ws) (keys-shown (D .knows) ∙ ap keysOf (D .settings) ∙ (unfold tell in sym (keys-shown K))) refl ∙ o .withins;
           }
+
+      goes : serialsFor (s .head) k ≡ true → Comes ks ws t 0 1 (world m (some s) fresh)
+      goes q =
+          let c = collect-begins K e ks ws b fit (omega arith) q in
+          let ev = collect-begun K b (starting s (collect b)) c in
+          let K₁ = knows-begun K (starting s (collect b)) (Event.collect b) beganCollect ev in
+          let D = collect-runs k K₁ b refl (unfold tell in refl) (omega arith) (serials-true (s .head) k q) in
+          let B = admit-now (D .knows) (D .rests) (offers D) (omega (arith, D .supply)) (omega (arith, D .serials)) in
+          collect-then (world m (some s) fresh) (world (D .m′) (some (D .s′)) fresh) b (next-collect m s (starting s (collect b)) ks ws b full13 settled picks c)
+          (subst (λ (x : Moment). Finishes (x .after) (world (D .m′) (some (D .s′)) fresh)) (sym ev) (D .run)) B
 
 -- ---- collectible blocks
 
@@ -371,8 +480,11 @@ base-last v e = go (seen v (s .at)) refl (not-false (endsBase (greatestSerial v)
 -- ---- the bound
 
 module _ {m : List ℕ} {s : Held} {h : History} (K : Known m s h) (rests : s .pending ≡ idle) (ks ws : List ℕ) (narrow : Below (2 ^ 16) ks) (small : Below (2 ^ 64) ws)
-    (full13 : appendOf (length m) (views m) s fresh ks ws ≡ refused 13) (many : 16 ≤ available (views m) (s .head))
-    (serials : s .head .serial + 16 ≤ 2 ^ 64 - 1) where
+    (full13 : appendOf (length m) (views m) s fresh ks ws ≡ refused 13) (many : 16 ≤ available (views m) (s .head)) where
+  -- more serials than any way takes
+  abbrev t : ℕ
+  t = s .head .serial + 16
+
   abbrev v : List View
   v = views m
 
@@ -406,11 +518,11 @@ module _ {m : List ℕ} {s : Held} {h : History} (K : Known m s h) (rests : s .p
   frame₀ = record { head-in = inl refl; used = used; olds = λ x l na nb. old-is v (s .head .serial) x (λ q pg e y. serials-bound K q pg y) }
 
   -- the newest page ends a base: one collection
-  settled : newer v ≡ false → Bounded ks ws 0 1 (world m (some s) fresh)
+  settled : newer v ≡ false → Comes ks ws t 0 1 (world m (some s) fresh)
   settled e =
       let B = N .best-of in
       let p : pagesFor (length (live (s .index) (N .block))) ≤ 8 = pages-most (length (live (s .index) (N .block))) 8 (omega (arith, live-few (N .block) (s .index), index-few K)) in
-      collect-once ks ws narrow small K rests (fulls .offer) full13 e (N .block) 8 (N .is) (B .fits) p (omega arith) (omega (arith, few)) (omega arith)
+      collect-once ks ws narrow small t K rests (fulls .offer) full13 e (N .block) 8 (N .is) (B .fits) p (omega arith) (omega (arith, few)) (omega arith)
     where
       L : BaseLast v
       L = base-last v e
@@ -469,53 +581,77 @@ module _ {m : List ℕ} {s : Held} {h : History} (K : Known m s h) (rests : s .p
         let b = N₁ .best-of .least (free₁ .y) (omega (arith, free₁ .ly, four (D .knows))) (can (free₁ .y) (free₁ .ly) (free₁ .ya) (free₁ .yb)) in
         omega (arith, a, b, live-two (free₁ .x) (free₁ .y) (D .s′ .index) (free₁ .xy), index-few (D .knows))
 
-    then-collect : roomFor (views (D .m′)) (D .s′ .head) (pagesFor (length ks) + 16) ≡ false → Bounded ks ws 0 1 (world (D .m′) (some (D .s′)) fresh)
+    then-collect : roomFor (views (D .m′)) (D .s′ .head) (pagesFor (length ks) + 16) ≡ false → Comes ks ws t 0 1 (world (D .m′) (some (D .s′)) fresh)
     then-collect e =
-        collect-once ks ws narrow small (D .knows) (D .rests) offer₁ (append-full (D .knows) (D .rests) ks ws offer₁ e) (D .ends-base) (N₁ .block) 4 (N₁ .is) (N₁ .best-of .fits)
+        collect-once ks ws narrow small t (D .knows) (D .rests) offer₁ (append-full (D .knows) (D .rests) ks ws offer₁ e) (D .ends-base) (N₁ .block) 4 (N₁ .is) (N₁ .best-of .fits)
         (pages-most (length (live (D .s′ .index) (N₁ .block))) 4 (omega (arith, fewest))) (omega (arith, pages₁)) (omega (arith, pages₁, few)) (omega (arith, D .serials))
 
-    then-in : roomFor (views (D .m′)) (D .s′ .head) (pagesFor (length ks) + 16) ≡ true → Bounded ks ws 0 0 (world (D .m′) (some (D .s′)) fresh)
+    then-in : roomFor (views (D .m′)) (D .s′ .head) (pagesFor (length ks) + 16) ≡ true → Comes ks ws t 0 0 (world (D .m′) (some (D .s′)) fresh)
     then-in e =
-        admit-now ks ws narrow small (D .knows) (D .rests) offer₁ (leb-true (pagesFor (length ks) + 16) (available (views (D .m′)) (D .s′ .head)) (unfold roomFor in e)) (omega (arith, D .serials))
+        admit-now ks ws narrow small t (D .knows) (D .rests) offer₁ (leb-true (pagesFor (length ks) + 16) (available (views (D .m′)) (D .s′ .head)) (unfold roomFor in e)) (omega (arith, D .serials))
+
+  base : (1 ≤ basePages (length (s .index))) × (basePages (length (s .index)) ≤ 8)
+  base = base-some (length (s .index)) (index-few K)
+
+  few-base-pages : suc (basePages (length (s .index)) - 1) ≤ 8
+  few-base-pages = omega (arith, base .0, base .1)
 
   -- a page is newer than the base: a commit first
-  unsettled : newer v ≡ true → Bounded ks ws 1 1 (world m (some s) fresh)
+  module _ (e : newer v ≡ true) (q : serialsFor (s .head) (basePages (length (s .index))) ≡ true) where
+    c : commitOf (length m) v s fresh ≡ gives (starting s (commit 0))
+    c = commit-begins K rests ks ws (omega (arith, base .1)) q
+
+    ev : happen (world m (some s) fresh) Event.commit ≡ moment m (some (starting s (commit 0))) fresh beganCommit
+    ev = commit-begun K (starting s (commit 0)) c
+
+    D₁ : CommitDone m (starting s (commit 0)) (suc (basePages (length (s .index)) - 1)) (s .head .serial) (s .head .block) (spare-one .at)
+    D₁ =
+        commit-runs (basePages (length (s .index)) - 1) (knows-begun K (starting s (commit 0)) Event.commit beganCommit ev) 0 (s .head .serial) (s .head .block) (spare-one .at) refl
+        (omega (arith, base .0)) (omega arith) (omega (arith, base .0, serials-true (s .head) (basePages (length (s .index))) q)) frame₀
+
+    first : (n : ℕ) → n ≤ 1 → Comes ks ws t 0 n (world (D₁ .m′) (some (D₁ .s′)) fresh) → Comes ks ws t 1 1 (world m (some s) fresh)
+    first n l B =
+        comes-wider
+        (commit-then (world m (some s) fresh) (world (D₁ .m′) (some (D₁ .s′)) fresh) (next-commit m s (starting s (commit 0)) ks ws full13 e c)
+        (subst (λ (x : Moment). Finishes (x .after) (world (D₁ .m′) (some (D₁ .s′)) fresh)) (sym ev) (D₁ .run)) B)
+        (omega arith) l
+
+    after-commit : Comes ks ws t 1 1 (world m (some s) fresh)
+    after-commit =
+        by-cases (roomFor (views (D₁ .m′)) (D₁ .s′ .head) (pagesFor (length ks) + 16))
+        (λ r. first 0 (omega arith) (then-in (suc (basePages (length (s .index)) - 1)) D₁ few-base-pages r))
+        (λ r. first 1 (omega arith) (then-collect (suc (basePages (length (s .index)) - 1)) D₁ few-base-pages r))
+
+  unsettled : newer v ≡ true → Comes ks ws t 1 1 (world m (some s) fresh)
   unsettled e =
-      by-cases (roomFor (views (D .m′)) (D .s′ .head) (pagesFor (length ks) + 16))
-      (λ r. first 0 (omega arith) (then-in (suc (basePages (length (s .index)) - 1)) D few-base-pages r))
-      (λ r. first 1 (omega arith) (then-collect (suc (basePages (length (s .index)) - 1)) D few-base-pages r))
-    where
-      c : commitOf (length m) v s fresh ≡ gives (starting s (commit 0))
-      c = let b = base-some (length (s .index)) (index-few K) in commit-begins K rests ks ws (omega (arith, b .1)) (omega (arith, b .1))
+      by-cases (serialsFor (s .head) (basePages (length (s .index)))) (λ q. after-commit e q)
+      (λ q. stops (world m (some s) fresh) (next-commit-14 m s ks ws full13 e (commit-short K rests ks ws (omega (arith, base .1)) q)) (omega (arith, base .1, serials-false (s .head) (basePages (length (s .index))) q)))
 
-      ev : happen (world m (some s) fresh) Event.commit ≡ moment m (some (starting s (commit 0))) fresh beganCommit
-      ev = commit-begun K (starting s (commit 0)) c
+  comes : Comes ks ws t 1 1 (world m (some s) fresh)
+  comes = by-cases (newer v) (λ e. unsettled e) (λ e. comes-wider (settled e) (omega arith) (omega arith))
 
-      few-base-pages : suc (basePages (length (s .index)) - 1) ≤ 8
-      few-base-pages = let b = base-some (length (s .index)) (index-few K) in omega (arith, b .0, b .1)
-
-      D : CommitDone m (starting s (commit 0)) (suc (basePages (length (s .index)) - 1)) (s .head .serial) (s .head .block) (spare-one .at)
-      D =
-          let b = base-some (length (s .index)) (index-few K) in
-          commit-runs (basePages (length (s .index)) - 1) (knows-begun K (starting s (commit 0)) Event.commit beganCommit ev) 0 (s .head .serial) (s .head .block) (spare-one .at) refl
-          (omega (arith, b .0)) (omega arith) (omega (arith, few-base-pages)) frame₀
-
-      first : (n : ℕ) → n ≤ 1 → Bounded ks ws 0 n (world (D .m′) (some (D .s′)) fresh) → Bounded ks ws 1 1 (world m (some s) fresh)
-      first n l B =
-          wider
-          (commit-first (world m (some s) fresh) (world (D .m′) (some (D .s′)) fresh) (next-commit m s (starting s (commit 0)) ks ws full13 e c)
-          (subst (λ (x : Moment). Finishes (x .after) (world (D .m′) (some (D .s′)) fresh)) (sym ev) (D .run)) B)
-          (omega arith) l
-
-  bounded : Bounded ks ws 1 1 (world m (some s) fresh)
-  bounded = by-cases (newer v) (λ e. unsettled e) (λ e. wider (settled e) (omega arith) (omega arith))
+-- the group is let in, or serials run out, which they do only where there are not 16
+let-in-or-14 : (w : World) (h : History) (s : Held) (ks ws : List ℕ) → Meets13 w h s ks ws → Comes ks ws (s .head .serial + 16) 1 1 w
+let-in-or-14 w h s ks ws M =
+    let q : w ≡ world (w .medium) (some s) fresh = rw (M .state, M .empty) in
+    rw q (comes (known (w .medium) s h (rw q at (M .reached))) (M .rests) ks ws (M .narrow) (M .small) (rw (M .empty) at (M .met13)) (M .pages))
 
 pub sharper : Sharper
-unfolding Sharper
-sharper w h s ks ws M =
-    let q : w ≡ world (w .medium) (some s) fresh = rw (M .state, M .empty) in
-    rw q (bounded (known (w .medium) s h (rw q at (M .reached))) (M .rests) ks ws (M .narrow) (M .small) (rw (M .empty) at (M .met13)) (M .pages) (M .serials))
+unfolding Sharper Suffice
+sharper w h s ks ws M S = go (let-in-or-14 w h s ks ws M)
+  where
+    go : Comes ks ws (s .head .serial + 16) 1 1 w → Bounded ks ws 1 1 w
+    go (inl B) = B
+    go (inr X) = absurd (S (X .operations) (X .end) (X .leads) (X .named))
 
 pub bound : Bound
 unfolding Bound Sharper
-bound w h s ks ws M = wider (sharper w h s ks ws M) (omega arith) (omega arith)
+bound w h s ks ws M S = wider (sharper w h s ks ws M S) (omega arith) (omega arith)
+
+pub sixteen : Sixteen
+unfolding Sixteen
+sixteen w h s ks ws M k = go (let-in-or-14 w h s ks ws M)
+  where
+    go : Comes ks ws (s .head .serial + 16) 1 1 w → Suffice ks ws w
+    go (inl B) = none-stops (B .admits)
+    go (inr X) = absurd (omega (arith, X .short))

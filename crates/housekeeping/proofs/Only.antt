@@ -10,7 +10,7 @@ use Rattle.step.specs.Step.{Step}
 use Rattle.valve_log.specs.Reached.{World, world, Event, stepDue, happen, finishes}
 use Rattle.lists.specs.Needs.{Answer, refused, gives}
 use Rattle.dispatcher.specs.Dispatch.{Next}
-use Rattle.housekeeping.specs.Bound.{isUnfinished, Finishes, namedIn, lets-in, commits, collects, OneWay}
+use Rattle.housekeeping.specs.Bound.{isUnfinished, Finishes, namedIn, appendIn, Leads, here, commits, collects, Admits, Suffice, OneWay}
 
 not-both : {P : Type 0} (st : Answer Step) → finishes st ≡ true → isUnfinished st ≡ true → P
 unfolding finishes isUnfinished
@@ -33,29 +33,61 @@ numberOf (gives (Next.collect b)) = 3
 clash : {P : Type 0} {x : Answer Next} (a b : Answer Next) → x ≡ a → x ≡ b → (numberOf a ≡ numberOf b → ⊥) → P
 clash a b p q d = absurd (d (ap numberOf (sym p ∙ q)))
 
-pub only : OneWay
-unfolding OneWay numberOf
-only ks ws a b w d f (lets-in w₁ d₁ s p o E) (lets-in w₂ d₂ s₂ q o₂ F) =
-    let k : s ≡ s₂ = same-given (sym o ∙ o₂) in
-    (refl, one-end (world (w .medium) (some s) (w .buffer)) d f E (rw k F))
-only ks ws a b w d f (lets-in w₁ d₁ s p o E) (commits w₂ x e q F A) = clash (gives Next.append) (gives Next.commit) p q (λ z. omega arith)
-only ks ws a b w d f (lets-in w₁ d₁ s p o E) (collects w₂ x e y q F A) = clash (gives Next.append) (gives (Next.collect y)) p q (λ z. omega arith)
-only ks ws a b w d f (commits w₁ x e p F A) (lets-in w₂ d₂ s q o E) = clash (gives Next.commit) (gives Next.append) p q (λ z. omega arith)
-only ks ws a b w d f (commits {ops = a₁} w₁ x e p F A) (commits {ops = a₂} w₂ y e₂ q G B) =
-    let k = one-end (happen w Event.commit .after) x y F G in
-    let r = only ks ws a₁ a₂ y d f (rw k at A) B in
-    (ap (λ (l : List Next). Next.commit ∷ l) (r .0), r .1)
-only ks ws a b w d f (commits w₁ x e p F A) (collects w₂ y e₂ z q G B) = clash (gives Next.commit) (gives (Next.collect z)) p q (λ z. omega arith)
-only ks ws a b w d f (collects w₁ x e y p F A) (lets-in w₂ d₂ s q o E) = clash (gives (Next.collect y)) (gives Next.append) p q (λ z. omega arith)
-only ks ws a b w d f (collects w₁ x e y p F A) (commits w₂ z e₂ q G B) = clash (gives (Next.collect y)) (gives Next.commit) p q (λ z. omega arith)
-only ks ws a b w d f (collects {ops = a₁} w₁ x e y p F A) (collects {ops = a₂} w₂ z e₂ u q G B) =
-    let k : y ≡ u = same p q in
-    let e = one-end (happen w (Event.collect y) .after) x z F (rw k G) in
-    let r = only ks ws a₁ a₂ z d f (rw e at A) B in
-    (both k (r .0), r .1)
-  where
-    same : namedIn w ks ws ≡ gives (Next.collect y) → namedIn w ks ws ≡ gives (Next.collect u) → y ≡ u
-    same p q = let z : gives (Next.collect y) ≡ gives (Next.collect u) = sym p ∙ q in cc
+same-block : (w : World) (ks ws : List ℕ) (y u : ℕ) → namedIn w ks ws ≡ gives (Next.collect y) → namedIn w ks ws ≡ gives (Next.collect u) → y ≡ u
+same-block w ks ws y u p q = let z : gives (Next.collect y) ≡ gives (Next.collect u) = sym p ∙ q in cc
 
-    both : y ≡ u → a₁ ≡ a₂ → _≡_ {A = List Next} (Next.collect y ∷ a₁) (Next.collect u ∷ a₂)
-    both k e = rw (k, e)
+both : (y u : ℕ) (a b : List Next) → y ≡ u → a ≡ b → _≡_ {A = List Next} (Next.collect y ∷ a) (Next.collect u ∷ b)
+both y u a b k e = rw (k, e)
+
+-- to where the append is named there is one way
+one-lead : (ks ws : List ℕ) (a b : List Next) (w d f : World) → Leads ks ws a w d → Leads ks ws b w f → namedIn d ks ws ≡ gives Next.append → namedIn f ks ws ≡ gives Next.append → (a ≡ b) × (d ≡ f)
+unfolding numberOf
+one-lead ks ws a b w d f (here w₁) (here w₂) p q = (refl, refl)
+one-lead ks ws a b w d f (here w₁) (commits w₂ x e n F B) p q = clash (gives Next.append) (gives Next.commit) p n (λ z. omega arith)
+one-lead ks ws a b w d f (here w₁) (collects w₂ x e y n F B) p q = clash (gives Next.append) (gives (Next.collect y)) p n (λ z. omega arith)
+one-lead ks ws a b w d f (commits w₁ x e n F A) (here w₂) p q = clash (gives Next.commit) (gives Next.append) n q (λ z. omega arith)
+one-lead ks ws a b w d f (commits {ops = a₁} w₁ x e n F A) (commits {ops = a₂} w₂ y e₂ m G B) p q =
+    let k = one-end (happen w Event.commit .after) x y F G in
+    let r = one-lead ks ws a₁ a₂ y d f (rw k at A) B p q in
+    (ap (λ (l : List Next). Next.commit ∷ l) (r .0), r .1)
+one-lead ks ws a b w d f (commits w₁ x e n F A) (collects w₂ y e₂ z m G B) p q = clash (gives Next.commit) (gives (Next.collect z)) n m (λ z. omega arith)
+one-lead ks ws a b w d f (collects w₁ x e y n F A) (here w₂) p q = clash (gives (Next.collect y)) (gives Next.append) n q (λ z. omega arith)
+one-lead ks ws a b w d f (collects w₁ x e y n F A) (commits w₂ z e₂ m G B) p q = clash (gives (Next.collect y)) (gives Next.commit) n m (λ z. omega arith)
+one-lead ks ws a b w d f (collects {ops = a₁} w₁ x e y n F A) (collects {ops = a₂} w₂ z e₂ u m G B) p q =
+    let k = same-block w ks ws y u n m in
+    let e = one-end (happen w (Event.collect y) .after) x z F (rw k G) in
+    let r = one-lead ks ws a₁ a₂ z d f (rw e at A) B p q in
+    (both y u a₁ a₂ k (r .0), r .1)
+
+pub only : OneWay
+unfolding OneWay
+only ks ws a b w d f A B =
+    let r = one-lead ks ws a b w (A .before) (B .before) (A .leads) (B .leads) (A .named) (B .named) in
+    (r .0, one-end (world (A .before .medium) (some (A .begun)) (A .before .buffer)) d f (A .finishes) (same (r .1)))
+  where
+    same : A .before ≡ B .before → Finishes (world (A .before .medium) (some (A .begun)) (A .before .buffer)) f
+    same e =
+        let k : A .begun ≡ B .begun = same-given (sym (A .begins) ∙ ap (λ (x : World). appendIn x ks ws) e ∙ B .begins) in
+        rw (e, k) (B .finishes)
+
+-- where the group is let in, no 14 is on the way
+before-stop : (ks ws : List ℕ) (a b : List Next) (w d f : World) → Leads ks ws a w d → Leads ks ws b w f → namedIn d ks ws ≡ gives Next.append → namedIn f ks ws ≡ refused 14 → ⊥
+unfolding numberOf
+before-stop ks ws a b w d f (here w₁) (here w₂) p q = clash (gives Next.append) (refused 14) p q (λ z. omega arith)
+before-stop ks ws a b w d f (here w₁) (commits w₂ x e n F B) p q = clash (gives Next.append) (gives Next.commit) p n (λ z. omega arith)
+before-stop ks ws a b w d f (here w₁) (collects w₂ x e y n F B) p q = clash (gives Next.append) (gives (Next.collect y)) p n (λ z. omega arith)
+before-stop ks ws a b w d f (commits w₁ x e n F A) (here w₂) p q = clash (gives Next.commit) (refused 14) n q (λ z. omega arith)
+before-stop ks ws a b w d f (commits {ops = a₁} w₁ x e n F A) (commits {ops = a₂} w₂ y e₂ m G B) p q =
+    let k = one-end (happen w Event.commit .after) x y F G in
+    before-stop ks ws a₁ a₂ y d f (rw k at A) B p q
+before-stop ks ws a b w d f (commits w₁ x e n F A) (collects w₂ y e₂ z m G B) p q = clash (gives Next.commit) (gives (Next.collect z)) n m (λ z. omega arith)
+before-stop ks ws a b w d f (collects w₁ x e y n F A) (here w₂) p q = clash (gives (Next.collect y)) (refused 14) n q (λ z. omega arith)
+before-stop ks ws a b w d f (collects w₁ x e y n F A) (commits w₂ z e₂ m G B) p q = clash (gives (Next.collect y)) (gives Next.commit) n m (λ z. omega arith)
+before-stop ks ws a b w d f (collects {ops = a₁} w₁ x e y n F A) (collects {ops = a₂} w₂ z e₂ u m G B) p q =
+    let k = same-block w ks ws y u n m in
+    let e = one-end (happen w (Event.collect y) .after) x z F (rw k G) in
+    before-stop ks ws a₁ a₂ z d f (rw e at A) B p q
+
+pub none-stops : {ks ws : List ℕ} {ops : List Next} {w end : World} → Admits ks ws ops w end → Suffice ks ws w
+unfolding Suffice
+none-stops {ks} {ws} {ops} {w} A b f L q = before-stop ks ws ops b w (A .before) f (A .leads) L (A .named) q

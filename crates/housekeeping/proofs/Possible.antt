@@ -30,11 +30,11 @@ use Rattle.valve_log.proofs.Events.{Sized, sized}
 use Rattle.valve_log.proofs.Formats.{Begins, basePage, started, in-format, starts}
 use Rattle.valve_log.proofs.Finished.{under-way, formatting-finishes}
 use Rattle.valve_log.proofs.Supply.{clean-page, clean-elsewhere, spare-is, spare-other, spare-clean, HeadReady, Which, in-head, new-head, due-page, available-after}
-use Rattle.housekeeping.specs.Bound.{Arises, Possible}
+use Rattle.housekeeping.specs.Bound.{Meets13, Sixteen, Arises, Possible}
 use Rattle.housekeeping.proofs.Counting.{count-one, count-le, count-more}
 use Rattle.housekeeping.proofs.Places.{There}
 use Rattle.housekeeping.proofs.Runs.{Known, known, newest, writes, page-programmed}
-use Rattle.housekeeping.proofs.Bound.{Offer, append-begins, append-full, append-begun, knows-begun}
+use Rattle.housekeeping.proofs.Bound.{Offer, append-begins, append-full, append-begun, knows-begun, sixteen}
 
 -- ---- one page taken
 
@@ -333,19 +333,22 @@ arises n d f room =
       ks = keys;
       ws = texts;
       size = f .size;
-      met =
-          record {
-            reached = f .filling .knows .reached;
-            state = refl;
-            empty = refl;
-            rests = f .filling .rests;
-            met13 = append-full (f .filling .knows) (f .filling .rests) keys texts (offers (f .s) (f .filling .index)) (f .short);
-            pages = f .filling .pages;
-            serials = omega (arith, f .serials);
-            narrow = narrow-keys;
-            small = narrow-texts;
-          };
+      met = met;
+      serials = unfold Sixteen in sixteen (world (f .m) (some (f .s)) fresh) (f .h) (f .s) keys texts met (omega (arith, f .serials));
     }
+  where
+    met : Meets13 (world (f .m) (some (f .s)) fresh) (f .h) (f .s) keys texts
+    met =
+        record {
+          reached = f .filling .knows .reached;
+          state = refl;
+          empty = refl;
+          rests = f .filling .rests;
+          met13 = append-full (f .filling .knows) (f .filling .rests) keys texts (offers (f .s) (f .filling .index)) (f .short);
+          pages = f .filling .pages;
+          narrow = narrow-keys;
+          small = narrow-texts;
+        }
 
 from-start : (n : ℕ) → sizeOk n ≡ true → Start n → Arises n
 from-start n size D = subst Arises (D .size) (arises (length (D .m)) (2 + available (views (D .m)) (hd .head)) filled (omega (arith, most, z .high)))

@@ -25,30 +25,32 @@ use Rattle.blocks.specs.declared.Head.{Head}
 use Rattle.blocks.specs.Blocks.{sizeOk, spare, available, reachesBase, oldBlock, newHead, pageDue, collectible}
 use Rattle.nodes.specs.Nodes.{inBlock, sound, words, live}
 use Rattle.nodes.proofs.Alive.{in-live}
-use Rattle.state.specs.State.{Pending, idle, append, commit, collect, Held, held, doneFit, basePages, pendingFit, fit, fitWith, bufferedIn, isIdle}
+use Rattle.state.specs.State.{Pending, idle, append, commit, collect, Held, held, doneFit, basePages, fit, fitWith, bufferedIn, isIdle}
 use Rattle.calls.specs.Calls.{serialsFor}
 use Rattle.step.specs.Step.{Step, isLast, groupPage, headAfter, addressed, appended, committed, collected, erasing, programsDue, needsErase}
 use Rattle.step.specs.Step.{erasedFirst, pageNeeds, programming, appendStep, commitStep, moveStep, collectStep, due, stepOf, mediumAfter, bufferAfter}
 use Rattle.step.proofs.Laws.{needs-erase, first-none, erase-due as first-due}
-use Rattle.valve_log.specs.History.{collecting, History, steppedPage, steppedBlock, counted, tell}
+use Rattle.recovery.specs.Recovery.{Placed, Group}
+use Rattle.valve_log.specs.History.{UnderWay, appending, collecting, History, steppedPage, steppedBlock, counted, tell}
 use Rattle.valve_log.specs.Reached.{World, world, fresh, Moment, moment, withState, stepDue, Event, stepped, happen, finishes, Reached}
 use Rattle.valve_log.proofs.Index.{valves}
 use Rattle.valve_log.proofs.Groups.{ends-page}
 use Rattle.valve_log.proofs.Steps.{page-serial}
 use Rattle.valve_log.proofs.Replay.{addressed-one}
 use Rattle.valve_log.proofs.Moves.{unique-live, live-in-block, moves-out}
-use Rattle.valve_log.proofs.Coupling.{Alive, alive-of}
+use Rattle.valve_log.proofs.Coupling.{Pend, at-rest, in-append, in-commit, in-collect, in-flush, Alive, alive-of}
 use Rattle.valve_log.proofs.Lent.{lent-of, with-fit}
 use Rattle.valve_log.proofs.Views.{clean-same}
 use Rattle.valve_log.proofs.Due.{Good, Programs, Erases, old-page, counted-collect}
 use Rattle.valve_log.proofs.Events.{Upheld, sized, there, block-there, erase-cut, due-good}
 use Rattle.valve_log.proofs.Point3.{reached-upheld}
 use Rattle.valve_log.proofs.Supply.{clean-elsewhere, spare-is, spare-other, spare-clean, Which, in-head, new-head, due-page, available-after}
-use Rattle.valve_log.proofs.Ready.{Left, Ready, fit-ready, sound-part, collects, due-outside, old-elsewhere}
+use Rattle.valve_log.proofs.Ready.{Left, pendingWell, Ready, fit-ready, sound-part, collects, due-outside, old-elsewhere}
+use Rattle.valve_log.proofs.Allowed.{Allowed, StateAllowed, reached-allowed}
 use Rattle.valve_log.proofs.Steady.{StateReady, reached-ready}
 use Rattle.valve_log.proofs.Once.{erased-recorded}
 use Rattle.dispatcher.specs.Dispatch.{serialSeen, greatestBelow, greatestSerial, endsBase, newer}
-use Rattle.housekeeping.specs.Bound.{isUnfinished, Finishes}
+use Rattle.housekeeping.specs.Bound.{isUnfinished, Finishes, EndsWith}
 use Rattle.dispatcher.proofs.Laws.{greatest-most, greatest-least}
 use Rattle.housekeeping.proofs.Counting.{count-more}
 use Rattle.housekeeping.proofs.Places.{not-spoilt, There, serial-below, newest-there, Stands}
@@ -75,11 +77,14 @@ module _ {m : List ℕ} {s : Held} {h : History} (K : Known m s h) where
   pub alives : Alive (views m) s (h .underWay) (K .upheld .coupled .b) (K .upheld .coupled .ch) (K .upheld .coupled .gs) (K .upheld .coupled .idx)
   alives = alive-of (K .upheld .coupled .memory)
 
+  allows : Allowed h
+  allows = unfold StateAllowed in reached-allowed (world m (some s) fresh) h (K .reached)
+
   pub fits : fit (views m) s ≡ true
-  fits = fit-ready (views m) s h (K .upheld .coupled) (K .ready)
+  fits = fit-ready (views m) s h (K .upheld .coupled) allows (K .ready)
 
   pub fits-fresh : fitWith (views m) s fresh ≡ true
-  fits-fresh = with-fit (views m) (lent-of (K .upheld .lending)) fits
+  fits-fresh = with-fit (views m) (lent-of (K .upheld .lending)) (allows .gathers) fits
 
   pub bound : (q : ℕ) (x : Page) → seen (views m) q ≡ whole x → x .serial < s .head .serial
   bound q x e = omega (arith, serial-below (K .upheld .coupled .medium) q x e, alives .serials)
@@ -381,7 +386,7 @@ module _ {m : List ℕ} {s : Held} {h : History} (K : Known m s h) (k : ℕ) (e 
       lefts = unfold Left in (subst (Left (views m) (s .head) (s .index)) e (K .ready .left))
 
       fewer : k < basePages (length (s .index))
-      fewer = unfold pendingFit doneFit in ltb-true k (basePages (length (s .index))) (every-at 1 _ (ap (pendingFit (views m) (s .head) (s .index)) (sym e) ∙ K .ready .pend))
+      fewer = unfold pendingWell doneFit in ltb-true k (basePages (length (s .index))) (every-at 1 _ (ap (pendingWell (views m) (s .head) (s .index)) (sym e) ∙ K .ready .pend))
 
   whichs : Which (views m) (s .head) p
   whichs = due-page (views m) (s .head) (K .ready .heads) one-left .which
@@ -471,10 +476,30 @@ commit-runs (suc j) {m} {s} {h} K k f a b e left firsts room F =
 
 -- ---- an append
 
--- the world that its steps lead to
-pub record AppendDone (m : List ℕ) (s : Held) : Type 0 where
+-- the world and the history that its steps lead to: its group is the last of the log
+pub record AppendDone (m : List ℕ) (s : Held) (es : List Entry) : Type 0 where
   pub end : World
   pub run : Finishes (world m (some s) fresh) end
+  pub history : History
+  pub reached : Reached end history
+  pub in-log : EndsWith es (history .log)
+
+-- an append with so many pages left is under way
+under-append : {v : List View} {serial : ℕ} {ch : List Placed} {gs : List Group} {idx : List Place} (p : Pending) (u : UnderWay) (es : List Entry) (ps : List ℕ) (n : ℕ)
+    → Pend v serial ch gs idx p u → p ≡ append es ps → pagesFor (length es) ≡ length ps + n → u ≡ appending es n
+under-append p u es ps n at-rest e l = let z : _≡_ {A = ℕ} 0 1 = cc in absurd (omega arith)
+under-append p u es ps n (in-commit f qs pre a b c d g o i) e l = let z : _≡_ {A = ℕ} 0 1 = cc in absurd (omega arith)
+under-append p u es ps n in-collect e l = let z : _≡_ {A = ℕ} 0 1 = cc in absurd (omega arith)
+under-append p u es ps n in-flush e l = let z : _≡_ {A = ℕ} 0 1 = cc in absurd (omega arith)
+under-append p u es ps n (in-append {es = es₁} {ps = ps₁} {left = left} f small a b op pr) e l =
+    let x : es₁ ≡ es = cc in
+    let y : ps₁ ≡ ps = cc in
+    let k : left ≡ n = omega (arith, a, l, ap length y, ap (λ (t : List Entry). pagesFor (length t)) x) in
+    rw (x, k)
+
+last-in-log : (h : History) (u : UnderWay) (es : List Entry) → u ≡ appending es 1 → EndsWith es (counted h u .log)
+unfolding counted
+last-in-log h u es e = rw e (record { before = h .log; is = refl })
 
 last-part : (n k : ℕ) → pagesFor n ≡ k + 1 → isLast k n ≡ true
 unfolding pagesFor isLast
@@ -500,21 +525,27 @@ module _ {m : List ℕ} {s : Held} {h : History} (K : Known m s h) (es : List En
   append-due records = unfold due appendStep in page-programmed K one-left room group-page (appended (recording s records) es ps place) (isLast (length ps) (length es))
 
   -- its last page
-  append-ends : isLast (length ps) (length es) ≡ true → AppendDone m s
-  append-ends l =
+  append-ends : isLast (length ps) (length es) ≡ true → pagesFor (length es) ≡ length ps + 1 → AppendDone m s es
+  append-ends l left =
       let W = writes K (append es ps) e (unfold isIdle in refl) place group-page head-after (assignAll (s .index) (addressed es (ps ++ (place ∷ [])))) idle true
       (λ records. append-due records ∙ (unfold appended in rw l)) in
-      record { end = _; run = W .goes-on .ends-here refl }
+      record {
+        end = _;
+        run = W .goes-on .ends-here refl;
+        history = counted h (h .underWay);
+        reached = W .goes-on .knows .reached;
+        in-log = last-in-log h (h .underWay) es (under-append (s .pending) (h .underWay) es ps 1 (alives K .pends) e left);
+      }
 
   -- a page that is not its last
   append-goes : (j : ℕ) → isLast (length ps) (length es) ≡ false → suc j ≤ available (views m) (s .head)
       → ((m′ : List ℕ) (records : List Bool) (h′ : History) → Known m′ (held head-after (s .index) (append es (ps ++ (place ∷ []))) records) h′ → j ≤ available (views m′) head-after
-      → AppendDone m′ (held head-after (s .index) (append es (ps ++ (place ∷ []))) records)) → AppendDone m s
+      → AppendDone m′ (held head-after (s .index) (append es (ps ++ (place ∷ []))) records) es) → AppendDone m s es
   append-goes j l many ih =
       let W =
       writes K (append es ps) e (unfold isIdle in refl) place group-page head-after (s .index) (append es (ps ++ (place ∷ []))) false (λ records. append-due records ∙ (unfold appended in rw l)) in
       let D = ih (W .m′) (W .records) (counted h (h .underWay)) (W .goes-on .knows) (left (W .m′) (W .sees)) in
-      record { end = D .end; run = W .goes-on .further refl (D .end) (D .run) }
+      record { end = D .end; run = W .goes-on .further refl (D .end) (D .run); history = D .history; reached = D .reached; in-log = D .in-log }
     where
       left : (m′ : List ℕ) → views m′ ≡ set (views m) place (whole group-page) → j ≤ available (views m′) head-after
       left m′ vs =
@@ -522,8 +553,8 @@ module _ {m : List ℕ} {s : Held} {h : History} (K : Known m s h) (es : List En
           rw vs (omega (arith, a, many))
 
 pub append-runs : (j : ℕ) {m : List ℕ} {s : Held} {h : History} (K : Known m s h) (es : List Entry) (ps : List ℕ) → s .pending ≡ append es ps → pagesFor (length es) ≡ length ps + suc j
-    → suc j ≤ available (views m) (s .head) → s .head .serial + suc j ≤ 2 ^ 64 - 1 → AppendDone m s
-append-runs zero {m} {s} {h} K es ps e left many room = append-ends K es ps e (omega arith) (omega arith) (last-part (length es) (length ps) left)
+    → suc j ≤ available (views m) (s .head) → s .head .serial + suc j ≤ 2 ^ 64 - 1 → AppendDone m s es
+append-runs zero {m} {s} {h} K es ps e left many room = append-ends K es ps e (omega arith) (omega arith) (last-part (length es) (length ps) left) left
 append-runs (suc j) {m} {s} {h} K es ps e left many room =
     append-goes K es ps e (omega arith) (omega arith) (suc j) (more-part (length es) (length ps) j left) many
     (λ m′ records h′ K′ many′. append-runs j K′ es (ps ++ (place K es ps e (omega arith) (omega arith) ∷ [])) refl (longer (place K es ps e (omega arith) (omega arith))) many′
@@ -550,7 +581,7 @@ module _ {m : List ℕ} {s : Held} {h : History} (K : Known m s h) (b : ℕ) (e 
   head = s .head
 
   fits-block : collectible (views m) (s .head) b ≡ true
-  fits-block = unfold pendingFit in (ap (pendingFit (views m) (s .head) (s .index)) (sym e) ∙ K .ready .pend)
+  fits-block = unfold pendingWell in (ap (pendingWell (views m) (s .head) (s .index)) (sym e) ∙ K .ready .pend)
 
   pages-left : pagesFor (length (live (s .index) b)) ≤ available (views m) (s .head)
   pages-left = unfold Left in (subst (Left (views m) (s .head) (s .index)) e (K .ready .left))

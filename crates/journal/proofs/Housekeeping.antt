@@ -14,7 +14,8 @@ use Rattle.flash.specs.Medium.{views}
 use Rattle.blocks.specs.Blocks.{available}
 use Rattle.state.specs.declared.State.{State}
 use Rattle.state.specs.State.{Held, pendingOf, meaning}
-use Rattle.calls.specs.Calls.{appendOf, commitOf, collectOf}
+use Rattle.recovery.specs.Recovery.{Recovery}
+use Rattle.calls.specs.Calls.{zip, appendOf, commitOf, collectOf}
 use Rattle.step.specs.Step.{Step, stepOf}
 use Rattle.readings.specs.Readings.{availableOf}
 use Rattle.read.specs.declared.Supplied.{Supplied}
@@ -28,11 +29,12 @@ use Rattle.dispatcher.specs.Dispatch.{Next, nextOf, written, Names}
 use Rattle.dispatcher.specs.Named.{callOf, isBegun, NamedBegins}
 use Rattle.dispatcher.proofs.Named.{named-begins}
 use Rattle.valve_log.specs.History.{History}
-use Rattle.valve_log.specs.Reached.{World, world, withState, Event, stepDue, happen, finishes}
-use Rattle.housekeeping.specs.Bound.{isUnfinished, Finishes, namedIn, appendIn, Admits, lets-in, commits, collects, commitsIn, collectionsIn, Bounded, Meets13, Bound, Sharper}
-use Rattle.housekeeping.proofs.Bound.{bound, sharper}
-use Rattle.journal.specs.Run.{Machine, machine, meant, worldOf, Moves, saysFinished, finishedBy}
-use Rattle.journal.specs.Housekeeping.{asking, stepping, inLog, Stage, LetsIn, Answers13, LetsInBy, BoundOfCode, SharperOfCode}
+use Rattle.valve_log.specs.Reached.{World, world, withState, Event, stepDue, happen, finishes, Reached, Point3}
+use Rattle.valve_log.proofs.Point3.{point3}
+use Rattle.housekeeping.specs.Bound.{isUnfinished, Finishes, namedIn, appendIn, Leads, here, commits, collects, Admits, commitsIn, collectionsIn, EndsWith, Bounded, Meets13, Bound, Sharper, Sixteen}
+use Rattle.housekeeping.proofs.Bound.{bound, sharper, sixteen}
+use Rattle.journal.specs.Run.{Machine, machine, meant, worldOf, Moves, Run, saysFinished, finishedBy}
+use Rattle.journal.specs.Housekeeping.{asking, stepping, inLog, Stage, LetsIn, Answers13, LetsInBy, BoundOfCode, SharperOfCode, SixteenOfCode}
 use Rattle.journal.proofs.Chain.{moves, runs, answers-finished}
 
 -- ---- what the answers of the calls say
@@ -120,25 +122,41 @@ module _ (ks ws : List ℕ) where
       let e = q .is ∙ ap (λ (z : World). appendIn z ks ws) p ∙ o in
       ap (λ (k : Held). world m (some k) b) (gave-value (r .number) (meaning (r .state)) s′ e) ∙ ap (λ (z : World). world (z .medium) (some s′) (z .buffer)) p
 
-  ways : (ops : List Next) (w end : World) → Admits ks ws ops w end → (m : List ℕ) (s : State) (b : List ℕ) → worldOf (machine m (some s) b) ≡ w
-      → LetsIn ks ws (commitsIn ops) (collectionsIn ops) asking (machine m (some s) b)
-  unfolding written callOf commitsIn collectionsIn
-  ways ops w end (lets-in w₁ end₁ s′ n o F) m s b p =
+  -- of a world that two lists lead to there is one log
+  same-log : (end : World) (x : Machine) → worldOf x ≡ end → (g h : History) → Reached end g → Run x h → g .log ≡ h .log
+  unfolding Point3
+  same-log end x e g h R T =
+      let a = point3 end g R in
+      let b = point3 end h (rw e at (runs x h T)) in
+      sym (a .same-log) ∙ ap (λ (r : Recovery). r .log) (same-given (sym (a .accepts) ∙ b .accepts)) ∙ b .same-log
+
+  -- the append named where the way ends
+  append-way : (w end : World) (s′ : Held) → namedIn w ks ws ≡ gives Next.append → appendIn w ks ws ≡ gives s′ → Finishes (world (w .medium) (some s′) (w .buffer)) end
+      → (g : History) → Reached end g → EndsWith (zip ks ws) (g .log) → (m : List ℕ) (s : State) (b : List ℕ) → worldOf (machine m (some s) b) ≡ w → LetsIn ks ws 0 0 asking (machine m (some s) b)
+  unfolding written callOf
+  append-way w end s′ n o F g R E m s b p =
       LetsIn.append m s b (answered-so m s b w p Next.append n) (λ r q. begun-number s (appendOf (length m) (views m) (meaning s) b ks ws) r q (begins-so m s b w p Next.append n))
-      (λ r q. carried 0 0 inLog (world (w .medium) (some s′) (w .buffer)) end F m (r .state) b (append-after m s b w p s′ o r q) (λ m′ t b′ e. LetsIn.appended (machine m′ (some t) b′)))
-  ways ops w end (commits {ops = l} w₁ w′ end₁ n F A) m s b p =
+      (λ r q. carried 0 0 inLog (world (w .medium) (some s′) (w .buffer)) end F m (r .state) b (append-after m s b w p s′ o r q)
+      (λ m′ t b′ e. LetsIn.appended (machine m′ (some t) b′) (λ h T. subst (EndsWith (zip ks ws)) (same-log end (machine m′ (some t) b′) e g h R T) E)))
+
+  ways : (ops : List Next) (w end : World) → Leads ks ws ops w end → ((m : List ℕ) (s : State) (b : List ℕ) → worldOf (machine m (some s) b) ≡ end → LetsIn ks ws 0 0 asking (machine m (some s) b))
+      → (m : List ℕ) (s : State) (b : List ℕ) → worldOf (machine m (some s) b) ≡ w → LetsIn ks ws (commitsIn ops) (collectionsIn ops) asking (machine m (some s) b)
+  unfolding written callOf commitsIn collectionsIn
+  ways ops w end (here w₁) z m s b p = z m s b p
+  ways ops w end (commits {ops = l} w₁ w′ end₁ n F A) z m s b p =
       LetsIn.commit m s b (answered-so m s b w p Next.commit n) (λ r q. begun-number s (commitOf (length m) (views m) (meaning s) b) r q (begins-so m s b w p Next.commit n))
       (λ r q. carried (commitsIn l) (collectionsIn l) asking (happen w Event.commit .after) w′ F m (r .state) b
-      (moves (machine m (some s) b) (machine m (some (r .state)) b) Event.commit (Moves.commit m s b r q) ∙ ap (λ (z : World). happen z Event.commit .after) p) (ways l w′ end A))
-  ways ops w end (collects {ops = l} w₁ w′ end₁ x n F A) m s b p =
+      (moves (machine m (some s) b) (machine m (some (r .state)) b) Event.commit (Moves.commit m s b r q) ∙ ap (λ (z : World). happen z Event.commit .after) p) (ways l w′ end A z))
+  ways ops w end (collects {ops = l} w₁ w′ end₁ x n F A) z m s b p =
       LetsIn.collect m s b x (answered-so m s b w p (Next.collect x) n) (λ r q. begun-number s (collectOf (length m) (views m) (meaning s) b x) r q (begins-so m s b w p (Next.collect x) n))
       (λ r q. carried (commitsIn l) (collectionsIn l) asking (happen w (Event.collect x) .after) w′ F m (r .state) b
-      (moves (machine m (some s) b) (machine m (some (r .state)) b) (Event.collect x) (Moves.collect m s b x r q) ∙ ap (λ (z : World). happen z (Event.collect x) .after) p) (ways l w′ end A))
+      (moves (machine m (some s) b) (machine m (some (r .state)) b) (Event.collect x) (Moves.collect m s b x r q) ∙ ap (λ (z : World). happen z (Event.collect x) .after) p) (ways l w′ end A z))
 
-  way-in : (ops : List Next) (end : World) (x : Machine) (s : State) → x .state ≡ some s → Admits ks ws ops (worldOf x) end → LetsIn ks ws (commitsIn ops) (collectionsIn ops) asking x
-  way-in ops end x s e A =
+  way-in : (ops : List Next) (end : World) (g : History) (x : Machine) (s : State) → x .state ≡ some s → Admits ks ws ops (worldOf x) end → Reached end g → EndsWith (zip ks ws) (g .log)
+      → LetsIn ks ws (commitsIn ops) (collectionsIn ops) asking x
+  way-in ops end g x s e A R E =
       subst (λ (o : Option State). LetsIn ks ws (commitsIn ops) (collectionsIn ops) asking (machine (x .medium) o (x .buffer))) (sym e)
-      (ways ops (worldOf x) end A (x .medium) s (x .buffer) (ap (λ (o : Option State). worldOf (machine (x .medium) o (x .buffer))) (sym e)))
+      (ways ops (worldOf x) (A .before) (A .leads) (append-way (A .before) end (A .begun) (A .named) (A .begins) (A .finishes) g R E) (x .medium) s (x .buffer) (ap (λ (o : Option State). worldOf (machine (x .medium) o (x .buffer))) (sym e)))
 
 -- ---- the bound
 
@@ -153,7 +171,6 @@ module _ (x : Machine) (h : History) (s : State) (ks ws : List ℕ) (M : Answers
         rests = ap (λ (k : ℕ). pendingOf k (s .progress) (s .group) (s .pages)) (M .rests) ∙ (unfold pendingOf in refl);
         met13 = refused-13 s (appendOf (length (x .medium)) (views (x .medium)) (meaning s) (x .buffer) ks ws) (M .answer) (M .appends) (M .met13);
         pages = omega (arith, M .pages, supplied (x .medium) s (M .supply) (M .supplies) (M .accepted));
-        serials = M .serials;
         narrow = M .narrow;
         small = M .small;
       }
@@ -165,13 +182,17 @@ lets-in-by {ks} {ws} x s e B =
       collections = collectionsIn (B .operations);
       few-commits = B .few-commits;
       few-collections = B .few-collections;
-      way = way-in ks ws (B .operations) (B .end) x s e (B .admits);
+      way = way-in ks ws (B .operations) (B .end) (B .history) x s e (B .admits) (B .reached) (B .in-log);
     }
 
 pub bound-of-code : BoundOfCode
 unfolding BoundOfCode Bound
-bound-of-code x h s ks ws M = lets-in-by x s (M .state) (bound (worldOf x) h (meaning s) ks ws (meets x h s ks ws M))
+bound-of-code x h s ks ws M S = lets-in-by x s (M .state) (bound (worldOf x) h (meaning s) ks ws (meets x h s ks ws M) S)
 
 pub sharper-of-code : SharperOfCode
 unfolding SharperOfCode Sharper
-sharper-of-code x h s ks ws M = lets-in-by x s (M .state) (sharper (worldOf x) h (meaning s) ks ws (meets x h s ks ws M))
+sharper-of-code x h s ks ws M S = lets-in-by x s (M .state) (sharper (worldOf x) h (meaning s) ks ws (meets x h s ks ws M) S)
+
+pub sixteen-of-code : SixteenOfCode
+unfolding SixteenOfCode Sixteen
+sixteen-of-code x h s ks ws M k = sixteen (worldOf x) h (meaning s) ks ws (meets x h s ks ws M) k

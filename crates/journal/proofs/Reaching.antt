@@ -31,9 +31,9 @@ use Rattle.valve_log.specs.Weak.{Weak, weakAfter}
 use Rattle.valve_log.specs.Steady.{Steady}
 use Rattle.valve_log.proofs.Steady.{steady}
 use Rattle.valve_log.proofs.Weak.{Guard, Kept, Careful, step-careful, event-kept, begun-guard}
-use Rattle.housekeeping.specs.Bound.{Meets13, Possible}
+use Rattle.housekeeping.specs.Bound.{Suffice, Meets13, Possible}
 use Rattle.housekeeping.proofs.Possible.{possible}
-use Rattle.journal.specs.Run.{Machine, machine, meant, worldOf, Moves, Formatting, Run}
+use Rattle.journal.specs.Run.{Machine, machine, meant, worldOf, Moves, Formatting, startingOn, Run}
 use Rattle.journal.specs.Housekeeping.{Answers13, ArisesInRun, PossibleOfCode}
 use Rattle.journal.proofs.Chain.{moves, answers-told, answers-meanwhile, answers-finished}
 use Rattle.journal.proofs.Started.{stateOf, state-same, answered}
@@ -198,6 +198,8 @@ runs-to w h (Reached.start w₀ F f) =
 runs-to w h (Reached.next w₀ h₀ e R) =
     let T = runs-to w₀ h₀ R in
     subst (λ (z : World). (e : Event z) → RunTo (happen z e .after) (tell h₀ (happen z e .told))) (T .is) (run-on (T .x) h₀ (T .run) (T .weak) (T .kept)) e
+runs-to w h (Reached.takenOver {w = w₀} b) =
+    record { x = startingOn w₀; is = unfold meant in refl; run = Run.takenOver b; weak = λ k. false; kept = unfold meant Kept in tt }
 
 -- ---- the premise of the bound
 
@@ -255,16 +257,15 @@ module _ (m : List ℕ) (s : State) (b : List ℕ) (h : History) (R : Run (machi
         pages =
             let a : available (views m) (s .head) ≡ available (views m) (t .head) = ap (λ (k : Held). available (views m) (k .head)) holds in
             omega (arith, a, M .pages, supplied m s (supplied-by .supply) (supplied-by .supplies) (supplied-by .accepted));
-        serials = let a : s .head .serial ≡ t .head .serial = ap (λ (k : Held). k .head .serial) holds in omega (arith, a, M .serials);
         narrow = M .narrow;
         small = M .small;
       }
 
 arises-in-run : (n : ℕ) (m : List ℕ) (o : Option State) (b : List ℕ) (h : History) (t : Held) (ks ws : List ℕ) → Run (machine m o b) h → length m ≡ n
-    → Meets13 (worldOf (machine m o b)) h t ks ws → ArisesInRun n
+    → Meets13 (worldOf (machine m o b)) h t ks ws → Suffice ks ws (worldOf (machine m o b)) → ArisesInRun n
 unfolding meant
-arises-in-run n m none b h t ks ws R l M = let z : none ≡ some t = M .state in let y : _≡_ {A = ℕ} 0 1 = cc in absurd (omega arith)
-arises-in-run n m (some s) b h t ks ws R l M = record { x = machine m (some s) b; h = h; s = s; ks = ks; ws = ws; size = l; met = meets-code m s b h R t ks ws M }
+arises-in-run n m none b h t ks ws R l M S = let z : none ≡ some t = M .state in let y : _≡_ {A = ℕ} 0 1 = cc in absurd (omega arith)
+arises-in-run n m (some s) b h t ks ws R l M S = record { x = machine m (some s) b; h = h; s = s; ks = ks; ws = ws; size = l; met = meets-code m s b h R t ks ws M; serials = S }
 
 pub possible-of-code : PossibleOfCode
 unfolding PossibleOfCode Possible
@@ -272,4 +273,4 @@ possible-of-code n size =
     let A = possible n size in
     let T = runs-to (A .w) (A .h) (A .met .reached) in
     arises-in-run n (T .x .medium) (T .x .state) (T .x .buffer) (A .h) (A .s) (A .ks) (A .ws) (T .run) (ap (λ (w : World). length (w .medium)) (T .is) ∙ A .size)
-    (subst (λ (w : World). Meets13 w (A .h) (A .s) (A .ks) (A .ws)) (sym (T .is)) (A .met))
+    (subst (λ (w : World). Meets13 w (A .h) (A .s) (A .ks) (A .ws)) (sym (T .is)) (A .met)) (subst (Suffice (A .ks) (A .ws)) (sym (T .is)) (A .serials))

@@ -3,6 +3,7 @@
 use mathlib.Core.Path.{_≡_}
 use mathlib.Core.List.{List, [], _∷_, _++_}
 use Prim.Native.Nat.{ℕ, _≤_}
+use denote.Ref.{RefT, now as refNow}
 use Rattle.lists.specs.Needs.{refused, answered}
 use Rattle.lists.specs.Cells.{Entry}
 use Rattle.state.specs.State.{meaning}
@@ -12,26 +13,30 @@ use Rattle.filing.specs.declared.Counted.{Counted}
 use Rattle.filing.specs.Filed.{leftBy, leaving, Logs}
 use Rattle.log_reader.specs.declared.LogPlace.{LogPlace}
 use Rattle.log_reader.specs.declared.ReadChange.{ReadChange}
-use Rattle.log_reader.specs.Reader.{startOf}
+use Rattle.log_reader.specs.declared.LogReader.{LogReader}
+use Rattle.log_reader.specs.Reader.{startOf, MakesReader, NextInTurn, AskedInTurn, GivesLog}
 use Rattle.spans.specs.declared.SpanEffect.{SpanEffect}
 use Rattle.spans.specs.Spans.{spanEffect}
 use Rattle.spans.specs.Along.{answerOf, Effects}
 use Rattle.mattered.specs.Mattered.{mattered, listedIn}
 use Rattle.mattered.specs.Listed.{ListsMattered}
 use Rattle.valve_log.specs.History.{History, history, nothing, assignGroups, tell}
-use Rattle.valve_log.specs.Reached.{Event}
+use Rattle.valve_log.specs.Reached.{World, Event, Earlier, happened, Before}
 use Rattle.fading.specs.Fading.{Faded}
-use Rattle.fading.specs.Made.{groupsCounting}
-use Rattle.journal.specs.Run.{Machine, worldOf, Moves, toldBy, Run, Handed}
-use Rattle.journal.specs.Reader.{AskedInTurn, GivesLog, ReadOut}
+use Rattle.fading.specs.Made.{groupsCounting, groupsMadeBefore}
+use Rattle.journal.specs.Run.{Machine, worldOf, Moves, toldBy, startingOn, Run, Handed}
+use Rattle.journal.specs.Reader.{ReadOut}
 
 -- ---- the moments of a run
 
--- q is the run r as it is now, or as it was before its last move or moves: r begins with q.
+-- q is the run r as it is now, or as it was before its last move or moves: r begins with q. A moment of the program as it was before
+-- Paper 8 is the medium as it then stood.
 pub data RunAtOrBefore {y : Machine} {g : History} (q : Run y g) : (x : Machine) (h : History) → Run x h → Type 0 where
   now : RunAtOrBefore q y g q
   earlier : {x z : Machine} {h : History} {r : Run x h} (e : Event (worldOf x)) (v : Moves x e z) → RunAtOrBefore q x h r
       → RunAtOrBefore q z (tell h (toldBy x z e v)) (Run.next x z h e r v)
+  older : {w : World} {h : History} {b : Before w h} (e : Earlier w) → RunAtOrBefore q (startingOn w) h (Run.takenOver b)
+      → RunAtOrBefore q (startingOn (happened w e .after)) (tell h (happened w e .told)) (Run.takenOver (Before.next w h e b))
 
 -- "that or an earlier moment since formatting ended": the run as it was then, with the machine and the plain history that it had led to
 pub record MomentOfRun {x : Machine} {h : History} (r : Run x h) : Type 0 where
@@ -43,7 +48,7 @@ pub record MomentOfRun {x : Machine} {h : History} (r : Run x h) : Type 0 where
 -- ---- what is handed
 
 -- Recovery refuses m with the number n, 4, 5 or 6, whatever it answers; so do the log and the groups that mattered, and leave the lent lists as they are;
--- so does the effect of a span; and so does the log reader, which gives no change however often it is asked.
+-- so does the effect of a span; and so does the log reader, by its calls and as the form that holds the medium, and gives no change however often it is asked.
 pub record TurnedBack (m : List ℕ) (n : ℕ) : Type 0 where
   pub number : (4 ≤ n) × (n ≤ 6)
   pub recovery : (r : Recovered) → Recovers m r → r .number ≡ n
@@ -53,6 +58,8 @@ pub record TurnedBack (m : List ℕ) (n : ℕ) : Type 0 where
   pub groups : (out out′ : List ℕ) (a : Counted) → ListsMattered m out a out′ → leftBy a (out′ ∷ []) ≡ leaving (out ∷ []) (refused n)
   pub reader : (p : LogPlace) → p ≡ startOf m → p .number ≡ n
   pub nothing : (p : LogPlace) (cs : List ReadChange) → p ≡ startOf m → AskedInTurn m p cs → GivesLog [] [] cs
+  pub form : (l : RefT (List ℕ)) (r : LogReader) → refNow l ≡ m → MakesReader l r → r .place .number ≡ n
+  pub form-nothing : (l : RefT (List ℕ)) (r : LogReader) (cs : List ReadChange) → refNow l ≡ m → MakesReader l r → NextInTurn r cs → GivesLog [] [] cs
 
 -- Whatever recovery answers of m and of the medium `then`, it is the same: accepted, with states of the same meaning. The log, the settings and each
 -- opening, with the state recovered from m, the log reader's changes, the effects of spans and the groups that mattered are those of the history g, all of
@@ -78,6 +85,7 @@ FadesOfCode = (x : Machine) (h : History) (r : Run x h) (m : List ℕ) → Faded
 unfoldable pub groupsMadeBy : {x : Machine} {h : History} → Run x h → List (List Entry)
 groupsMadeBy (Run.start x y f v last) = []
 groupsMadeBy (Run.next x y h e r v) = groupsMadeBy r ++ groupsCounting h (toldBy x y e v)
+groupsMadeBy (Run.takenOver b) = groupsMadeBefore b
 
 -- Of the groups made, those before the log, the log, and those that are not shown. What is handed of m is this log, and the settings that the groups
 -- up to its end lead to, none being set at first.

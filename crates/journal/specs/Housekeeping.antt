@@ -15,11 +15,13 @@ use Rattle.begin.specs.declared.Begun.{Begun}
 use Rattle.begin.specs.Begun.{Appends, Commits, Collects}
 use Rattle.advance.specs.declared.Stepped.{Stepped}
 use Rattle.advance.specs.Outcomes.{Steps}
+use Rattle.calls.specs.Calls.{zip}
 use Rattle.dispatcher.specs.declared.NextOperation.{NextOperation}
 use Rattle.dispatcher.specs.Dispatch.{Names}
 use Rattle.valve_log.specs.History.{History}
 use Rattle.valve_log.specs.Reached.{fresh}
-use Rattle.journal.specs.Run.{Machine, machine, Run}
+use Rattle.housekeeping.specs.Bound.{EndsWith, Suffice}
+use Rattle.journal.specs.Run.{Machine, machine, worldOf, Run}
 
 -- an answer of `next` that refuses nothing
 abbrev pub operationNamed : ℕ → ℕ → NextOperation
@@ -33,7 +35,7 @@ pub data Stage : Type 0 where
 
 -- Whatever the calls answer on the way, of which nothing is known but the promise: `next` names the append (1), a commit (2) or a collection (3),
 -- the call named is accepted, and so is each of its steps until one says that it is finished; then `next` is asked again, unless it was the append
--- of the group ks ws. The numbers count the commits and the collections.
+-- of the group ks ws. Then the log of the run's plain history ends with that very group. The numbers count the commits and the collections.
 pub data LetsIn (ks ws : List ℕ) : ℕ → ℕ → Stage → Machine → Type 0 where
   append : (m : List ℕ) (s : State) (b : List ℕ) → ((r : NextOperation) → Names m s b ks ws true r → r ≡ operationNamed 1 0)
       → ((r : Begun) → Appends m s b ks ws r → r .number ≡ 0) → ((r : Begun) → Appends m s b ks ws r → LetsIn ks ws 0 0 (stepping inLog) (machine m (some (r .state)) b))
@@ -48,10 +50,10 @@ pub data LetsIn (ks ws : List ℕ) : ℕ → ℕ → Stage → Machine → Type 
       → ((r : Stepped) (m′ b′ : List ℕ) → Steps m s b r m′ b′ → LetsIn ks ws i j (stepping then) (machine m′ (some (r .state)) b′)) → LetsIn ks ws i j (stepping then) (machine m (some s) b)
   last : {i j : ℕ} {then : Stage} (m : List ℕ) (s : State) (b : List ℕ) → ((r : Stepped) (m′ b′ : List ℕ) → Steps m s b r m′ b′ → (r .number ≡ 0) × (r .finished ≡ true))
       → ((r : Stepped) (m′ b′ : List ℕ) → Steps m s b r m′ b′ → LetsIn ks ws i j then (machine m′ (some (r .state)) b′)) → LetsIn ks ws i j (stepping then) (machine m (some s) b)
-  appended : (x : Machine) → LetsIn ks ws 0 0 inLog x
+  appended : (x : Machine) → ((h : History) → Run x h → EndsWith (zip ks ws) (h .log)) → LetsIn ks ws 0 0 inLog x
 
 -- Along a program's run, with the state last handed back and an empty buffer: "an append met 13 with at least 16 pages available", as the answers of
--- `append` and `available` say, "no operation is pending" and 16 serials are left. Keys have 16 bits and words 64.
+-- `append` and `available` say, "no operation is pending". Keys have 16 bits and words 64.
 pub record Answers13 (x : Machine) (h : History) (s : State) (ks ws : List ℕ) : Type 0 where
   pub run : Run x h
   pub state : x .state ≡ some s
@@ -64,7 +66,6 @@ pub record Answers13 (x : Machine) (h : History) (s : State) (ks ws : List ℕ) 
   pub supplies : Supplies (x .medium) s supply
   pub accepted : supply .number ≡ 0
   pub pages : 16 ≤ supply .pages
-  pub serials : s .head .serial + 16 ≤ 2 ^ 64 - 1
   pub narrow : Below (2 ^ 16) ks
   pub small : Below (2 ^ 64) ws
 
@@ -76,13 +77,18 @@ pub record LetsInBy (ks ws : List ℕ) (most-commits most-collections : ℕ) (x 
   pub few-collections : collections ≤ most-collections
   pub way : LetsIn ks ws commits collections asking x
 
--- "at most one commit and at most two collections let that same group in", of the code
+-- "serials suffice": `housekeeping` Bound's premise, of the world that the machine stands for. "at most one commit and at most two collections let that
+-- same group in", of the code
 unfoldable pub BoundOfCode : Type 0
-BoundOfCode = (x : Machine) (h : History) (s : State) (ks ws : List ℕ) → Answers13 x h s ks ws → LetsInBy ks ws 1 2 x
+BoundOfCode = (x : Machine) (h : History) (s : State) (ks ws : List ℕ) → Answers13 x h s ks ws → Suffice ks ws (worldOf x) → LetsInBy ks ws 1 2 x
 
 -- one collection is enough
 unfoldable pub SharperOfCode : Type 0
-SharperOfCode = (x : Machine) (h : History) (s : State) (ks ws : List ℕ) → Answers13 x h s ks ws → LetsInBy ks ws 1 1 x
+SharperOfCode = (x : Machine) (h : History) (s : State) (ks ws : List ℕ) → Answers13 x h s ks ws → Suffice ks ws (worldOf x) → LetsInBy ks ws 1 1 x
+
+-- 16 serials suffice
+unfoldable pub SixteenOfCode : Type 0
+SixteenOfCode = (x : Machine) (h : History) (s : State) (ks ws : List ℕ) → Answers13 x h s ks ws → s .head .serial + 16 ≤ 2 ^ 64 - 1 → Suffice ks ws (worldOf x)
 
 -- the premises are met along some run of the code, on a medium of n bytes
 pub record ArisesInRun (n : ℕ) : Type 0 where
@@ -93,6 +99,7 @@ pub record ArisesInRun (n : ℕ) : Type 0 where
   pub ws : List ℕ
   pub size : length (x .medium) ≡ n
   pub met : Answers13 x h s ks ws
+  pub serials : Suffice ks ws (worldOf x)
 
 -- and so on media of every allowed length: there are structs that meet the promises of the calls on the way
 unfoldable pub PossibleOfCode : Type 0

@@ -8,3 +8,4 @@ pub mod SinceCommit
 pub mod Mattered
 pub mod Housekeeping
 pub mod Fading
+pub mod Orders

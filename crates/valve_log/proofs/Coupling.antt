@@ -1,19 +1,21 @@
 -- The coupling of medium, state and history: what holds of the three at every moment.
-use mathlib.Core.Path.{_≡_}
-use mathlib.Core.Bool.{true}
+use mathlib.Core.Path.{_≡_, refl}
+use mathlib.Core.Bool.{true, _||_}
 use mathlib.Core.Option.{Option, none, some}
 use mathlib.Core.List.{List, [], _++_}
-use Prim.Native.Nat.{ℕ, _+_, _-_, _*_, _/_, _≤_}
-use lib.Dec.{ltb}
+use Prim.Native.Nat.{ℕ, _+_, _-_, _*_, _/_, _≤_, _<_}
+use lib.Dec.{ltb, eqb}
 use lib.ListN.{length}
-use borrow.Author.Tests.{leb-true, eqb-true}
+use borrow.Author.Tests.{leb-true, ltb-true, eqb-true}
 use Rattle.lists.specs.Lists.{all}
 use Rattle.lists.specs.Cells.{Entry, Place}
 use Rattle.lists.specs.declared.Cell.{Cell}
-use Rattle.lists.proofs.Laws.{all-weaken, every-at}
+use Rattle.lists.proofs.Laws.{by-cases, all-weaken, every-at}
 use Rattle.page.specs.Pages.{View, pagesFor}
-use Rattle.index.specs.Index.{rising}
-use Rattle.state.specs.State.{Pending, idle, append, commit, collect, flush, Held, headFit, placeFit, indexFit, pendingFit, basePages, fit}
+use Rattle.page.specs.Rules.{entryOk}
+use Rattle.index.specs.Index.{rising, within, entryAllowed, entriesAllowed}
+use Rattle.blocks.specs.Blocks.{collectible}
+use Rattle.state.specs.State.{Pending, idle, append, commit, collect, format, flush, unnamed, Held, headFit, placeFit, indexFit, groupOk, doneFit, pendingFit, basePages, fit}
 use Rattle.recovery.specs.Recovery.{Placed, Group, between, walk, groupsOf}
 use Rattle.valve_log.specs.History.{UnderWay, appending, committing, collecting, flushing, History, history}
 use Rattle.valve_log.proofs.Index.{valves}
@@ -66,6 +68,52 @@ alive-of (alive a) = a
 
 -- ---- what condition 7 gives
 
+-- of a pending append's group: its entries keep the page rules, as 11 sees to, and 10 and 12
+pub record Let-in (index : List Place) (es : List Entry) : Type 0 where
+  pub many : 1 ≤ length es
+  pub most : length es ≤ 96
+  pub lawfuls : all (entryOk 1) es ≡ true
+  pub counts : within index es ≡ true
+
+-- of what is pending
+unfoldable pub Awaited : List View → Held → Pending → Type 0
+Awaited v s idle = Unit {0}
+Awaited v s (append es ps) = Let-in (s .index) es × (length ps < pagesFor (length es))
+Awaited v s (commit k) = k < basePages (length (s .index))
+Awaited v s (collect b) = collectible v (s .head) b ≡ true
+Awaited v s (format n) = Unit {0}
+Awaited v s flush = Unit {0}
+Awaited v s unnamed = Unit {0}
+
+-- 11 gives the page rules of entries
+one-lawful : (kind : ℕ) → eqb kind 1 || eqb kind 4 ≡ true → (e : Entry) → entryAllowed e ≡ true → entryOk kind e ≡ true
+unfolding entryAllowed entryOk
+one-lawful kind k e h = by-cases (ltb (e .key) 32768) (λ q. rw q) (λ q. rw (q, k) (rw q at h))
+
+pub allowed-lawful : (kind : ℕ) → eqb kind 1 || eqb kind 4 ≡ true → (es : List Entry) → entriesAllowed es ≡ true → all (entryOk kind) es ≡ true
+unfolding entriesAllowed
+allowed-lawful kind k es h = all-weaken entryAllowed (entryOk kind) (one-lawful kind k) es h
+
+group-in : (index : List Place) (es : List Entry) → groupOk index es ≡ true → Let-in index es
+unfolding groupOk
+group-in index es g =
+    record {
+      many = leb-true 1 (length es) (every-at 0 _ g);
+      most = leb-true (length es) 96 (every-at 1 _ g);
+      lawfuls = allowed-lawful 1 refl es (every-at 2 _ g);
+      counts = every-at 3 _ g;
+    }
+
+pub awaited : (v : List View) (s : Held) (p : Pending) → pendingFit v (s .head) (s .index) p ≡ true → Awaited v s p
+unfolding pendingFit Awaited doneFit
+awaited v s idle f = tt
+awaited v s (append es ps) f = (group-in (s .index) es (every-at 0 _ f), ltb-true (length ps) (pagesFor (length es)) (every-at 1 _ (every-at 1 _ f)))
+awaited v s (commit k) f = ltb-true k (basePages (length (s .index))) (every-at 1 _ f)
+awaited v s (collect b) f = f
+awaited v s (format n) f = tt
+awaited v s flush f = tt
+awaited v s unnamed f = tt
+
 pub record Fits (v : List View) (s : Held) : Type 0 where
   pub size : s .head .blocks ≡ length v / 16
   pub count : length (s .index) ≤ 192
@@ -73,7 +121,6 @@ pub record Fits (v : List View) (s : Held) : Type 0 where
   pub valve : valves (s .index) ≡ true
   pub address : all (λ x. ltb (x .val) (384 * s .head .blocks)) (s .index) ≡ true
   pub serial : 1 ≤ s .head .serial
-  pub pending : pendingFit v (s .head) (s .index) (s .pending) ≡ true
 
 pub fits : (v : List View) (s : Held) → fit v s ≡ true → Fits v s
 unfolding fit headFit indexFit
@@ -87,5 +134,4 @@ fits v s h =
       valve = unfold valves in all-weaken (placeFit (s .head .blocks)) (λ (x : Cell). ltb (x .key) 32768) (λ x e. unfold placeFit in every-at 0 _ e) (s .index) (every-at 2 _ b);
       address = all-weaken (placeFit (s .head .blocks)) (λ (x : Cell). ltb (x .val) (384 * s .head .blocks)) (λ x e. unfold placeFit in every-at 1 _ e) (s .index) (every-at 2 _ b);
       serial = leb-true 1 (s .head .serial) (every-at 4 _ a);
-      pending = every-at 2 _ h;
     }

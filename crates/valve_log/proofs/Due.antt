@@ -24,7 +24,7 @@ use Rattle.flash.specs.Medium.{mostPages, seen}
 use Rattle.flash.proofs.Cuts.{CutViews}
 use Rattle.blocks.specs.Blocks.{sizeOk, reachesBase, oldBlock, newHead, pageDue, collectible}
 use Rattle.nodes.specs.Nodes.{inBlock, sound, words, live, wordAt}
-use Rattle.state.specs.State.{Pending, idle, Held, doneFit, basePages, pendingFit, isIdle, groupsFit, fitWith, bufferedIn}
+use Rattle.state.specs.State.{Pending, idle, Held, basePages, pendingFit, fit, isIdle, fitWith, bufferedIn}
 use Rattle.calls.specs.Calls.{serialsFor}
 use Rattle.recovery.specs.Recovery.{Placed, Group}
 use Rattle.step.specs.Step.{Step, isLast, groupPage, appended, committed, collected, erasing, erasedFirst, pageNeeds, programming, appendStep}
@@ -38,9 +38,9 @@ use Rattle.valve_log.proofs.Views.{cut-lost, clean-same, word-same}
 use Rattle.valve_log.proofs.Groups.{page-most}
 use Rattle.valve_log.proofs.Small.{small-part, small-places, small-words, SmallWords, narrow}
 use Rattle.valve_log.proofs.Sound.{Sound, lost-sound}
-use Rattle.valve_log.proofs.Coupling.{Pend, at-rest, in-append, in-commit, in-collect, in-flush, Alive, alive, alive-of, Coupled, Fits, fits}
+use Rattle.valve_log.proofs.Coupling.{Pend, at-rest, in-append, in-commit, in-collect, in-flush, Alive, alive, alive-of, Coupled, Fits, fits, Awaited, awaited}
 use Rattle.valve_log.proofs.Steps.{page-serial, ap-lawful, ap-more, ap-last, cm-lawful, cm-more, cm-last, cl-lawful, cl-more, fl-lawful, fl-last}
-use Rattle.valve_log.proofs.Lent.{Beside, Lent, lent-groups, state-fit, lent-fit, notFlush, lent-none, lent-after, kept-append, kept-commit}
+use Rattle.valve_log.proofs.Lent.{Beside, Lent, lent-groups, state-fit, notFlush, lent-none, lent-after, kept-append, kept-commit}
 
 -- ---- what a step may be
 
@@ -64,7 +64,7 @@ Good v s bs h (refused n) = Unit {0}
 Good v s bs h (gives (Step.program p pg s′ finished)) = Programs v s bs h p pg s′
 Good v s bs h (gives (Step.erase b s′ finished)) = Erases v bs h b s′
 
-refused-good : (v : List View) (s : Held) (bs : List ℕ) (h : History) (n : ℕ) → Good v s bs h (refused n)
+pub refused-good : (v : List View) (s : Held) (bs : List ℕ) (h : History) (n : ℕ) → Good v s bs h (refused n)
 unfolding Good
 refused-good v s bs h n = tt
 
@@ -146,7 +146,7 @@ still-coupled {v} {s} {h} b c =
 -- nor the buffer beside it, a pending flush's groups included
 still-lent : {s : Held} {bs : List ℕ} {h : History} (b : ℕ) → Lent s bs h → Lent (erasing s b (s .pending)) bs h
 unfolding erasing
-still-lent b L = record { holds = L .holds; fits-in = L .fits-in; allowed = L .allowed; count = L .count; beside = L .beside }
+still-lent b L = record { holds = L .holds; fits-in = L .fits-in; count = L .count; beside = L .beside }
 
 -- the block is wholly clean, and reads as before also where the erase is cut
 first-good : (v : List View) (s : Held) (bs : List ℕ) (h : History) (own : Answer Step) → Coupled v (some s) h → Lent s bs h → Fits v s → Good v s bs h own → Good v s bs h (erasedFirst v s own)
@@ -212,29 +212,29 @@ module _ (v : List View) (s : Held) (h : History) {ch : List Placed} {gs : List 
   collect-good b nb u c (x ∷ xs) e =
       move-good b (take 24 (x ∷ xs)) nb u (λ y i. in-live (s .index) b (rw e (in-take 24 (x ∷ xs) i))) (omega (arith, length-take 24 (x ∷ xs))) (omega (arith, length-take 24 (x ∷ xs)))
 
-  due-good : (pend : Pending) (u : UnderWay) → Pend v (s .head .serial) ch gs (s .index) pend u → h .underWay ≡ u → pendingFit v (s .head) (s .index) pend ≡ true
-      → Beside pend (h .underWay) (h .buffered) → groupsFit (s .index) pend (h .buffered) ≡ true → Good v s bs h (due v s (h .buffered) pend)
-  unfolding due pendingFit doneFit Beside groupsFit
-  due-good pend u at-rest e q B G = refused-good v s bs h 9
-  due-good pend u (in-flush {small = small}) e q B G =
+  due-good : (pend : Pending) (u : UnderWay) → Pend v (s .head .serial) ch gs (s .index) pend u → h .underWay ≡ u → Awaited v s pend
+      → Beside pend (h .underWay) (h .buffered) → Good v s bs h (due v s (h .buffered) pend)
+  unfolding due Awaited Beside
+  due-good pend u at-rest e q B = refused-good v s bs h 9
+  due-good pend u (in-flush {small = small}) e q B =
       unfold flushStep in
       programming-good v s bs h (pageDue v (s .head)) (groupsPage (s .head .serial) (h .buffered)) (flushed s (h .buffered) (pageDue v (s .head))) true (λ c room.
       let n : s .head .serial < 2 ^ 64 = omega arith in
       record {
         cleans = c;
         fits-in = narrow-groups (s .head .serial) (h .buffered) (L .fits-in) n;
-        lawfuls = fl-lawful v s h S ser (h .buffered) (pageDue v (s .head)) (L .fits-in) G (facts .serial) room c;
+        lawfuls = fl-lawful v s h S ser (h .buffered) (pageDue v (s .head)) (L .fits-in) (B .1) (L .count) (facts .serial) room c;
         serials = unfold groupsPage in refl;
-        after = rw (ap (counted h) (B .0)) (fl-last v s h S ser (h .buffered) (pageDue v (s .head)) (L .fits-in) G (facts .serial) room c);
+        after = rw (ap (counted h) (B .0)) (fl-last v s h S ser (h .buffered) (pageDue v (s .head)) (L .fits-in) (B .1) (L .count) (facts .serial) room c);
         lends =
             rw (ap (counted h) (B .0))
             (lent-none (flushed s (h .buffered) (pageDue v (s .head))) _ (counted h (flushing (h .buffered) 1)) (unfold groupsPage in refl) (unfold counted in refl) (unfold flushed notFlush in refl));
       })
-  due-good pend u (in-append {es = es} {ps = ps} {left = left} f small a b op pr) e q B G =
+  due-good pend u (in-append {es = es} {ps = ps} {left = left} f small a b op pr) e q B =
       unfold appendStep in
       programming-good v s bs h (pageDue v (s .head)) (groupPage 1 es (length ps) (s .head .serial)) (appended s es ps (pageDue v (s .head))) (isLast (length ps) (length es)) (λ c room.
-      let fewer : length ps < pagesFor (length es) = ltb-true (length ps) (pagesFor (length es)) (every-at 1 _ (every-at 1 _ q)) in
-      let l = ap-lawful v s h S ser es ps left f (pageDue v (s .head)) small a b op pr (every-at 0 _ q) fewer (facts .serial) room c in
+      let fewer : length ps < pagesFor (length es) = q .1 in
+      let l = ap-lawful v s h S ser es ps left f (pageDue v (s .head)) small a b op pr (q .0) fewer (facts .serial) room c in
       record {
         cleans = c;
         fits-in =
@@ -245,19 +245,19 @@ module _ (v : List View) (s : Held) (h : History) {ch : List Placed} {gs : List 
         after =
             rw (ap (counted h) e)
             (by-cases (isLast (length ps) (length es))
-            (λ z. ap-last v s h S ser es ps left f (pageDue v (s .head)) small a b op pr (every-at 0 _ q) fewer (facts .serial) room c z)
-            (λ z. ap-more v s h S ser es ps left f (pageDue v (s .head)) small a b op pr (every-at 0 _ q) fewer (facts .serial) room c z));
+            (λ z. ap-last v s h S ser es ps left f (pageDue v (s .head)) small a b op pr (q .0) fewer (facts .serial) room c z)
+            (λ z. ap-more v s h S ser es ps left f (pageDue v (s .head)) small a b op pr (q .0) fewer (facts .serial) room c z));
         lends =
             rw (ap (counted h) e)
             (lent-after s (appended s es ps (pageDue v (s .head))) bs h (counted h (appending es left)) (eqb (groupPage 1 es (length ps) (s .head .serial) .kind) 4) L B (kept-append h es left)
             (appended-calm s es ps (pageDue v (s .head))));
       })
-  due-good pend u (in-commit {k = k} {left = left} f ps pre n a b sp op al ag) e q B G =
+  due-good pend u (in-commit {k = k} {left = left} f ps pre n a b sp op al ag) e q B =
       unfold commitStep in
       rw (← n)
       (programming-good v s bs h (pageDue v (s .head)) (groupPage 2 (s .index) (length ps) (s .head .serial))
       (committed s (length ps) (pageDue v (s .head))) (isLast (length ps) (length (s .index))) (λ c room.
-      let fewer : length ps < basePages (length (s .index)) = rw n (ltb-true k (basePages (length (s .index))) (every-at 1 _ q)) in
+      let fewer : length ps < basePages (length (s .index)) = rw n q in
       let l = cm-lawful v s h S ser ps left f (pageDue v (s .head)) pre (rw n a) (rw n b) sp op al ag facts fewer room c in
       record {
         cleans = c;
@@ -278,24 +278,31 @@ module _ (v : List View) (s : Held) (h : History) {ch : List Placed} {gs : List 
             (eqb (groupPage 2 (s .index) (length ps) (s .head .serial) .kind) 4) L B (kept-commit h left)
             (committed-calm s (length ps) (pageDue v (s .head))));
       }))
-  due-good pend u (in-collect {b = b}) e q B G = collect-good b B e q (live (s .index) b) refl
+  due-good pend u (in-collect {b = b}) e q B = collect-good b B e q (live (s .index) b) refl
 
 aligned : {v : List View} {log : List (List Entry)} {settings : List Cell} {b : ℕ} {ch : List Placed} {gs : List Group} {idx : List Place} (b′ : ℕ) (idx′ : List Place)
     → b′ ≡ b → idx′ ≡ idx → Sound v log settings b ch gs idx → Sound v log settings b′ ch gs idx′
 aligned b′ idx′ p q S = rw (p, q) S
+
+-- the operation's step, on a state that is fit for it
+pub awaited-good : (v : List View) (s : Held) (b : List ℕ) (h : History) → SmallWords v → length v ≤ mostPages → Coupled v (some s) h → Lent s b h → Fits v s → Awaited v s (s .pending)
+    → Good v s b h (erasedFirst v s (due v s (bufferedIn b) (s .pending)))
+awaited-good v s b h texts few c L F A = first-good v s b h (due v s (bufferedIn b) (s .pending)) c L F (with-state (alive-of (c .memory)))
+  where
+    with-state : Alive v s (h .underWay) (c .b) (c .ch) (c .gs) (c .idx) → Good v s b h (due v s (bufferedIn b) (s .pending))
+    with-state a =
+        rw (lent-groups L)
+        (due-good v s h (aligned (s .head .base) (s .index) (a .bases) (a .indices) (c .medium))
+        (a .serials ∙ ap (λ (n : ℕ). n + length (c .ch)) (sym (a .bases))) F texts few b L (s .pending) (h .underWay)
+        (rw (a .indices) (a .pends)) refl A (L .beside))
 
 -- the step that is due
 pub step-good : (n : ℕ) (v : List View) (s : Held) (b : List ℕ) (h : History) → SmallWords v → length v ≤ mostPages → Coupled v (some s) h → Lent s b h → Good v s b h (stepOf n v s b)
 unfolding stepOf
 step-good n v s b h texts few c L =
     checked-cases (Good v s b h) (need 1 (sizeOk n) ∷ need 7 (fitWith v s b) ∷ need 9 (not (isIdle (s .pending))) ∷ []) (erasedFirst v s (due v s (bufferedIn b) (s .pending))) (refused-good v s b h)
-    (λ e. let w : fitWith v s b ≡ true = unfold tests in every-at 1 _ e in let F =
-    fits v s (state-fit v s b w) in first-good v s b h (due v s (bufferedIn b) (s .pending)) c L F (with-state (alive-of (c .memory)) w F))
+    (λ e. let f = state-fit v s b (unfold tests in every-at 1 _ e) in
+    awaited-good v s b h texts few c L (fits v s f) (awaited v s (s .pending) (pending-fit f)))
   where
-    with-state : Alive v s (h .underWay) (c .b) (c .ch) (c .gs) (c .idx) → fitWith v s b ≡ true → Fits v s → Good v s b h (due v s (bufferedIn b) (s .pending))
-    with-state a w F =
-        let k = lent-fit v L w in
-        rw (lent-groups L)
-        (due-good v s h (aligned (s .head .base) (s .index) (a .bases) (a .indices) (c .medium))
-        (a .serials ∙ ap (λ (n : ℕ). n + length (c .ch)) (sym (a .bases))) F texts few b L (s .pending) (h .underWay)
-        (rw (a .indices) (a .pends)) refl (F .pending) (L .beside) k)
+    pending-fit : fit v s ≡ true → pendingFit v (s .head) (s .index) (s .pending) ≡ true
+    pending-fit f = unfold fit in every-at 2 _ f

@@ -10,12 +10,13 @@ use native.Mathlib.Decide.{decLt}
 use lib.Dec.{eqb}
 use lib.ListN.{length}
 use borrow.Author.Tests.{leb-true, eqb-true, eq-eqb}
-use Rattle.lists.specs.Lists.{every, Below}
+use Rattle.lists.specs.Lists.{all, every, Below}
 use Rattle.lists.specs.Needs.{Answer, refused, gives, Need, checked}
 use Rattle.lists.specs.Cells.{Entry}
 use Rattle.codec.specs.Codec.{blank}
 use Rattle.lists.proofs.Laws.{and-l, and-r, and-both, true-false, every-at, tests, checked-cases}
 use Rattle.page.specs.Pages.{Page, View, clean, spoilt, whole, isWhole, pagesFor, changesOf}
+use Rattle.page.specs.Rules.{entryOk}
 use Rattle.page.specs.Buffer.{holding}
 use Rattle.page.proofs.Berger.{blanked}
 use Rattle.flash.specs.Medium.{mostBlocks, mostPages, views, seen, programmed, erased}
@@ -23,8 +24,9 @@ use Rattle.flash.specs.Cuts.{CutProgram, CutErase}
 use Rattle.flash.proofs.Laws.{length-views, clean-in}
 use Rattle.flash.proofs.Steps.{AllGuarded, program-length, program-guarded, program-views, erase-length, erase-guarded, erase-views, length-cleaned, seen-cleaned, seen-uncleaned}
 use Rattle.flash.proofs.Cuts.{CutViews, cut-program-views, cut-program-guarded, cut-program-final, cut-erase-views, cut-erase-guarded}
+use Rattle.index.specs.Index.{within}
 use Rattle.blocks.specs.Blocks.{sizeOk}
-use Rattle.state.specs.State.{Pending, append, commit, collect, flush, Held, basePages, bufferedIn}
+use Rattle.state.specs.State.{Pending, append, commit, collect, flush, Held, basePages, bufferedIn, isIdle}
 use Rattle.recovery.specs.Recovery.{Placed, Group, Recovery, walk, groupsOf}
 use Rattle.recovery.specs.Recovery
 use Rattle.calls.specs.Calls.{starting, zip, listsOk, holdsNone, placesFor, appendNeeds, appendOf, commitNeeds, commitOf, collectNeeds, collectOf, flushNeeds, flushOf, bufferNeeds, bufferOf}
@@ -41,7 +43,7 @@ use Rattle.valve_log.proofs.Present.{nil}
 use Rattle.valve_log.proofs.Groups.{lay, unopened}
 use Rattle.valve_log.proofs.Small.{small-zip, zip-length, words-small}
 use Rattle.valve_log.proofs.Sound.{outcome, accepts, lost-sound}
-use Rattle.valve_log.proofs.Coupling.{Pend, at-rest, in-append, in-commit, in-collect, in-flush, alive, alive-of, Coupled, forget}
+use Rattle.valve_log.proofs.Coupling.{Pend, at-rest, in-append, in-commit, in-collect, in-flush, alive, alive-of, Coupled, forget, allowed-lawful}
 use Rattle.valve_log.proofs.Coupling
 use Rattle.valve_log.proofs.Lent.{Beside, Lent, Lending, lost, kept, lent-of, lent-groups, notFlush, lent-none, lent-more}
 use Rattle.valve_log.proofs.Due.{Programs, Erases, Good, step-good}
@@ -101,7 +103,7 @@ module _ (m : List ℕ) (s : Held) (b : List ℕ) (h : History) (U : Upheld (wor
               medium = c .medium;
               memory = alive {s = starting s pend} (record { serials = a .serials; bases = a .bases; indices = a .indices; pends = rw (← a .indices) (p (c .ch) (c .gs)) });
             };
-        lending = kept {s = starting s pend} (record { holds = L .holds; fits-in = L .fits-in; allowed = L .allowed; count = L .count; beside = B });
+        lending = kept {s = starting s pend} (record { holds = L .holds; fits-in = L .fits-in; count = L .count; beside = B });
       }
 
   -- a call whose conditions are met begins the operation; otherwise nothing changes
@@ -116,17 +118,19 @@ module _ (m : List ℕ) (s : Held) (b : List ℕ) (h : History) (U : Upheld (wor
   some-buffered : not (holdsNone b) ≡ true → 1 ≤ length (h .buffered)
   some-buffered e = some-groups (h .buffered) (unfold holdsNone in (rw (lent-groups L) at e))
 
-  append-good : (ks ws : List ℕ) → Below (2 ^ 16) ks → Below (2 ^ 64) ws → Follows h (called (world m (some s) b) (beganAppend (zip ks ws)) (appendOf (length m) (views m) s b ks ws))
-  unfolding appendOf
-  append-good ks ws x y =
-      call-good (beganAppend (zip ks ws)) (appendNeeds (length m) (views m) s b ks ws) (starting s (append (zip ks ws) []))
+  -- an append under conditions that 24 is one of
+  pub append-good : (ks ws : List ℕ) (cs : List Need) → (every (tests cs) ≡ true → holdsNone b ≡ true) → Below (2 ^ 16) ks → Below (2 ^ 64) ws
+      → Follows h (called (world m (some s) b) (beganAppend (zip ks ws)) (checked cs (starting s (append (zip ks ws) []))))
+  append-good ks ws cs fourth x y =
+      call-good (beganAppend (zip ks ws)) cs (starting s (append (zip ks ws) []))
       (λ e. unfold tell in begin-good (append (zip ks ws) []) (appending (zip ks ws) (pagesFor (length (zip ks ws))))
       (λ ch gs. in-append {es = zip ks ws} {ps = []} {left = pagesFor (length (zip ks ws))} (s .head .serial)
       (small-zip ks ws x y) (omega arith) (omega arith) (unfold lay in unopened) (unfold lay in nil))
       (unfold Beside in none-buffered (fourth e)))
-    where
-      fourth : every (tests (appendNeeds (length m) (views m) s b ks ws)) ≡ true → holdsNone b ≡ true
-      fourth e = unfold tests in every-at 3 _ e
+
+  append-now : (ks ws : List ℕ) → Below (2 ^ 16) ks → Below (2 ^ 64) ws → Follows h (called (world m (some s) b) (beganAppend (zip ks ws)) (appendOf (length m) (views m) s b ks ws))
+  unfolding appendOf
+  append-now ks ws = append-good ks ws (appendNeeds (length m) (views m) s b ks ws) (λ e. unfold tests in every-at 3 _ e)
 
   commit-good : Follows h (called (world m (some s) b) beganCommit (commitOf (length m) (views m) s b))
   unfolding commitOf
@@ -155,45 +159,58 @@ module _ (m : List ℕ) (s : Held) (b : List ℕ) (h : History) (U : Upheld (wor
       fourth : every (tests (collectNeeds (length m) (views m) s b block)) ≡ true → holdsNone b ≡ true
       fourth e = unfold tests in every-at 3 _ e
 
-  flush-good : Follows h (called (world m (some s) b) beganFlush (flushOf (length m) (views m) s b))
-  unfolding flushOf Beside
-  flush-good =
-      call-good beganFlush (flushNeeds (length m) (views m) s b) (starting s flush)
+  -- a flush under conditions that 10 is one of
+  pub flush-good : (cs : List Need) → (every (tests cs) ≡ true → not (holdsNone b) ≡ true) → Follows h (called (world m (some s) b) beganFlush (checked cs (starting s flush)))
+  unfolding Beside
+  flush-good cs fourth =
+      call-good beganFlush cs (starting s flush)
       (λ e. unfold tell in begin-good flush (flushing (h .buffered) 1) (λ ch gs. in-flush {small = h .buffered}) (flushes e))
     where
-      fourth : every (tests (flushNeeds (length m) (views m) s b)) ≡ true → not (holdsNone b) ≡ true
-      fourth e = unfold tests in every-at 3 _ e
-
-      flushes : every (tests (flushNeeds (length m) (views m) s b)) ≡ true → Beside flush (flushing (h .buffered) 1) (h .buffered)
+      flushes : every (tests cs) ≡ true → Beside flush (flushing (h .buffered) 1) (h .buffered)
       flushes e = (refl, some-buffered (fourth e))
 
-  -- a group into the buffer
-  buffer-good : (ks ws : List ℕ) → Below (2 ^ 16) ks → Below (2 ^ 64) ws → Follows h (filled (world m (some s) b) (putIn (zip ks ws)) (bufferOf (length m) (views m) s b ks ws))
-  unfolding bufferOf tests
-  buffer-good ks ws x y =
-      checked-cases (λ (r : Answer (List ℕ)). Follows h (filled (world m (some s) b) (putIn (zip ks ws)) r)) (bufferNeeds (length m) (views m) s b ks ws)
-      (gives (holding (bufferedIn b ++ (zip ks ws ∷ []))))
-      (λ n. unfold filled tell in U) (λ e. unfold filled tell in after e)
-    where
-      lends : every (tests (bufferNeeds (length m) (views m) s b ks ws)) ≡ true
-          → Lent s (holding (bufferedIn b ++ (zip ks ws ∷ []))) (history (h .settings) (h .log) (h .underWay) (h .buffered ++ (zip ks ws ∷ [])))
-      lends e =
-          let lists = every-at 3 _ e in
-          let z = zip-length ks ws (eqb-true (length ks) (length ws) (unfold listsOk in every-at 0 _ lists)) in
-          let low : 1 ≤ length ks = leb-true 1 (length ks) (unfold listsOk in every-at 1 _ lists) in
-          let few : length (changesOf (bufferedIn b)) + length ks ≤ 16 = leb-true (length (changesOf (bufferedIn b)) + length ks) 16 (unfold placesFor in every-at 6 _ e) in
-          lent-more L (zip ks ws) (every-at 2 _ e) (small-zip ks ws x y) (omega arith) (omega arith) (every-at 4 _ e) (every-at 5 _ e)
+  flush-now : Follows h (called (world m (some s) b) beganFlush (flushOf (length m) (views m) s b))
+  unfolding flushOf
+  flush-now = flush-good (flushNeeds (length m) (views m) s b) (λ e. unfold tests in every-at 3 _ e)
 
-      after : every (tests (bufferNeeds (length m) (views m) s b ks ws)) ≡ true
-          → Upheld (world m (some s) (holding (bufferedIn b ++ (zip ks ws ∷ [])))) (history (h .settings) (h .log) (h .underWay) (h .buffered ++ (zip ks ws ∷ [])))
-      after e =
+  -- what the conditions of a group put into the buffer give, with 11 the entries' page rules
+  pub record Puts (ks ws : List ℕ) : Type 0 where
+    pub rests : isIdle (s .pending) ≡ true
+    pub lists : listsOk ks ws ≡ true
+    pub lawfuls : all (entryOk 4) (zip ks ws) ≡ true
+    pub counts : within (s .index) (changesOf (bufferedIn b) ++ zip ks ws) ≡ true
+    pub places : placesFor b (length ks) ≡ true
+
+  -- a group into the buffer, under such conditions
+  pub buffer-good : (ks ws : List ℕ) (cs : List Need) → (every (tests cs) ≡ true → Puts ks ws) → Below (2 ^ 16) ks → Below (2 ^ 64) ws
+      → Follows h (filled (world m (some s) b) (putIn (zip ks ws)) (checked cs (holding (bufferedIn b ++ (zip ks ws ∷ [])))))
+  buffer-good ks ws cs puts x y =
+      checked-cases (λ (r : Answer (List ℕ)). Follows h (filled (world m (some s) b) (putIn (zip ks ws)) r)) cs
+      (gives (holding (bufferedIn b ++ (zip ks ws ∷ []))))
+      (λ n. unfold filled tell in U) (λ e. unfold filled tell in after (puts e))
+    where
+      lends : Puts ks ws → Lent s (holding (bufferedIn b ++ (zip ks ws ∷ []))) (history (h .settings) (h .log) (h .underWay) (h .buffered ++ (zip ks ws ∷ [])))
+      lends P =
+          let z = zip-length ks ws (eqb-true (length ks) (length ws) (unfold listsOk in every-at 0 _ (P .lists))) in
+          let low : 1 ≤ length ks = leb-true 1 (length ks) (unfold listsOk in every-at 1 _ (P .lists)) in
+          let few : length (changesOf (bufferedIn b)) + length ks ≤ 16 = leb-true (length (changesOf (bufferedIn b)) + length ks) 16 (unfold placesFor in P .places) in
+          lent-more L (zip ks ws) (P .rests) (small-zip ks ws x y) (omega arith) (omega arith) (P .lawfuls) (P .counts)
+
+      after : Puts ks ws → Upheld (world m (some s) (holding (bufferedIn b ++ (zip ks ws ∷ [])))) (history (h .settings) (h .log) (h .underWay) (h .buffered ++ (zip ks ws ∷ [])))
+      after P =
           let c = U .coupled in
           record {
             size = U .size;
             guarded = U .guarded;
             coupled = record { b = c .b; ch = c .ch; gs = c .gs; idx = c .idx; medium = c .medium; memory = c .memory };
-            lending = kept {s = s} (lends e);
+            lending = kept {s = s} (lends P);
           }
+
+  buffer-now : (ks ws : List ℕ) → Below (2 ^ 16) ks → Below (2 ^ 64) ws → Follows h (filled (world m (some s) b) (putIn (zip ks ws)) (bufferOf (length m) (views m) s b ks ws))
+  unfolding bufferOf tests
+  buffer-now ks ws =
+      buffer-good ks ws (bufferNeeds (length m) (views m) s b ks ws)
+      (λ e. record { rests = every-at 2 _ e; lists = every-at 3 _ e; lawfuls = allowed-lawful 4 refl (zip ks ws) (every-at 4 _ e); counts = every-at 5 _ e; places = every-at 6 _ e })
 
 -- ---- recovery
 
@@ -222,7 +239,7 @@ recover-good m s b h U = rw (accepts (U .coupled .medium) (length m) (U .size)) 
 
 -- ---- a cut between two steps
 
-cut-good : (m : List ℕ) (s : Option Held) (b b′ : List ℕ) (h : History) → Upheld (world m s b) h → Upheld (world m none b′) h
+pub cut-good : (m : List ℕ) (s : Option Held) (b b′ : List ℕ) (h : History) → Upheld (world m s b) h → Upheld (world m none b′) h
 cut-good m s b b′ h U = record { size = U .size; guarded = U .guarded; coupled = forget (h .underWay) (U .coupled); lending = lost }
 
 -- ---- the bytes of two media
@@ -337,13 +354,13 @@ module _ (m : List ℕ) (s : Held) (bs : List ℕ) (h : History) (U : Upheld (wo
           lending = lost;
         }
 
-  step-goes : (st : Answer Step) → Good (views m) s bs h st → Follows h (stepped (world m (some s) bs) st)
+  pub step-goes : (st : Answer Step) → Good (views m) s bs h st → Follows h (stepped (world m (some s) bs) st)
   unfolding stepped mediumAfter bufferAfter Good tell
   step-goes (refused n) G = U
   step-goes (gives (Step.program p pg s′ finished)) G = program-upheld p pg s′ G
   step-goes (gives (Step.erase b s′ finished)) G = erase-upheld b s′ G
 
-  cut-goes : (st : Answer Step) → Good (views m) s bs h st → (left : List ℕ) → CutOf m st left → Follows h (cutShort (world m (some s) bs) left st)
+  pub cut-goes : (st : Answer Step) → Good (views m) s bs h st → (left : List ℕ) → CutOf m st left → Follows h (cutShort (world m (some s) bs) left st)
   unfolding cutShort CutOf Good
   cut-goes (refused n) G left c = absurd c
   cut-goes (gives (Step.program p pg s′ finished)) G left c = cut-program-upheld p pg s′ G left c (sameBytes left (programmed m p pg)) refl
@@ -357,15 +374,15 @@ module _ (m : List ℕ) (s : Held) (bs : List ℕ) (h : History) (U : Upheld (wo
 pub happen-good : (m : List ℕ) (s : Option Held) (b : List ℕ) (h : History) (e : Event (world m s b)) → Upheld (world m s b) h → Follows h (happen (world m s b) e)
 unfolding happen withState stepDue
 happen-good m none b h (Event.append ks ws x y) U = unfold tell in U
-happen-good m (some s) b h (Event.append ks ws x y) U = append-good m s b h U ks ws x y
+happen-good m (some s) b h (Event.append ks ws x y) U = append-now m s b h U ks ws x y
 happen-good m none b h Event.commit U = unfold tell in U
 happen-good m (some s) b h Event.commit U = commit-good m s b h U
 happen-good m none b h (Event.collect k) U = unfold tell in U
 happen-good m (some s) b h (Event.collect k) U = collect-good m s b h U k
 happen-good m none b h (Event.buffer ks ws x y) U = unfold tell in U
-happen-good m (some s) b h (Event.buffer ks ws x y) U = buffer-good m s b h U ks ws x y
+happen-good m (some s) b h (Event.buffer ks ws x y) U = buffer-now m s b h U ks ws x y
 happen-good m none b h Event.flush U = unfold tell in U
-happen-good m (some s) b h Event.flush U = flush-good m s b h U
+happen-good m (some s) b h Event.flush U = flush-now m s b h U
 happen-good m none b h Event.step U = unfold stepped tell in U
 happen-good m (some s) b h Event.step U = step-goes m s b h U (stepOf (length m) (views m) s b) (due-good m s b h U)
 happen-good m s b h Event.recover U = recover-good m s b h U

@@ -34,6 +34,7 @@ use Rattle.valve_log.proofs.Lent.{Beside, Lent, lent-of, lent-groups, w
 use Rattle.valve_log.proofs.Events.{Upheld}
 use Rattle.valve_log.proofs.Point3.{reached-upheld}
 use Rattle.valve_log.proofs.Ready.{Ready, fit-ready}
+use Rattle.valve_log.proofs.Allowed.{Allowed, StateAllowed, reached-allowed}
 use Rattle.valve_log.proofs.Steady.{StateReady, reached-ready, steady}
 
 -- ---- what is kept along the list
@@ -201,11 +202,12 @@ event-room m s b h (Event.cutInside left c) U r = cut-room (world m s b) left (s
 reached-room : (w : World) (h : History) → Reached w h → WorldRoom w h
 reached-room w h (Reached.start v F e) = room-none _ _ _ refl
 reached-room w h (Reached.next v g e R) = event-room (v .medium) (v .state) (v .buffer) g e (reached-upheld v g R) (reached-room v g R)
+reached-room w h (Reached.takenOver b) = unfold StateRoom in tt
 
 -- ---- the flush
 
 module _ (m : List ℕ) (s : Held) (bs : List ℕ) (h : History) (U : Upheld (world m (some s) bs) h) (r : Ready (views m) s)
-    (R : StateRoom (views m) (h .buffered) (some s)) (some-held : holdsNone bs ≡ false) where
+    (A : Allowed h) (R : StateRoom (views m) (h .buffered) (some s)) (some-held : holdsNone bs ≡ false) where
   abbrev v : List View
   v = views m
 
@@ -213,7 +215,7 @@ module _ (m : List ℕ) (s : Held) (bs : List ℕ) (h : History) (U : Upheld (wo
   lends = lent-of (U .lending)
 
   fits : fitWith v s bs ≡ true
-  fits = with-fit v lends (fit-ready v s h (U .coupled) r)
+  fits = with-fit v lends (A .gathers) (fit-ready v s h (U .coupled) A r)
 
   some-group : 1 ≤ length (h .buffered)
   unfolding holdsNone
@@ -241,7 +243,7 @@ module _ (m : List ℕ) (s : Held) (bs : List ℕ) (h : History) (U : Upheld (wo
   unfolding flushOf under
   begins e =
       let k = room-idle (s .pending) e room in
-      rw (U .size, fits, e, some-held, lent-groups lends, lends .allowed, lends .count, k .0, k .1)
+      rw (U .size, fits, e, some-held, lent-groups lends, A .gathers, lends .count, k .0, k .1)
 
   -- the flush pending
   pend-flush : {serial : ℕ} {ch : List Placed} {gs : List Group} {idx : List Place} (p : Pending) (u : UnderWay) → Pend v serial ch gs idx p u → Beside p u (h .buffered) → isIdle p ≡ false → p ≡ flush
@@ -271,23 +273,23 @@ module _ (m : List ℕ) (s : Held) (bs : List ℕ) (h : History) (U : Upheld (wo
 
   steps : Answers m s bs → isIdle (s .pending) ≡ false → (n : ℕ) → stepOf (length m) v s bs ≡ refused n → ⊥
   unfolding erasedFirst
-  steps A e n q =
+  steps B e n q =
       by-cases (needsErase v s)
       (λ c. given-refused (Step.erase (newHead v (s .head)) (erasing s (newHead v (s .head)) (s .pending)) false) n (rw c at (sym (step-is e) ∙ q)))
       (λ c.
       let z : flushStep v s (bufferedIn bs) ≡ refused n = rw c at (sym (step-is e) ∙ q) in
       let k : n ≡ 16 = page-is _ (refused n) refl (room-flush (s .pending) (pends e) room) z n refl in
-      let x : expected 16 ≡ true = rw k at (A .step n q) in
+      let x : expected 16 ≡ true = rw k at (B .step n q) in
       true-false x (unfold expected every in refl))
 
 answers : (m : List ℕ) (o : Option Held) (bs : List ℕ) (h : History) (s : Held) → Upheld (world m o bs) h → StateReady (views m) o
-    → StateRoom (views m) (h .buffered) o → o ≡ some s → holdsNone bs ≡ false → Answers m s bs → CanFlush m s bs
-unfolding StateReady
-answers m none bs h s U r R e k A = let z : _≡_ {A = ℕ} 0 1 = cc in absurd (omega arith)
-answers m (some t) bs h s U r R e k A =
+    → StateAllowed o h → StateRoom (views m) (h .buffered) o → o ≡ some s → holdsNone bs ≡ false → Answers m s bs → CanFlush m s bs
+unfolding StateReady StateAllowed
+answers m none bs h s U r L R e k A = let z : _≡_ {A = ℕ} 0 1 = cc in absurd (omega arith)
+answers m (some t) bs h s U r L R e k A =
     let q : t ≡ s = cc in
-    rw (← q) (record { begins = begins m t bs h U r R k; pends = pends m t bs h U r R k; steps = steps m t bs h U r R k (rw q A) })
+    rw (← q) (record { begins = begins m t bs h U r L R k; pends = pends m t bs h U r L R k; steps = steps m t bs h U r L R k (rw q A) })
 
 pub flushable : Flushable
 unfolding Flushable Steady
-flushable w h s R e k = answers (w .medium) (w .state) (w .buffer) h s (reached-upheld w h R) (reached-ready w h R) (reached-room w h R) e k (steady w h s R e)
+flushable w h s R e k = answers (w .medium) (w .state) (w .buffer) h s (reached-upheld w h R) (reached-ready w h R) (reached-allowed w h R) (reached-room w h R) e k (steady w h s R e)

@@ -15,7 +15,6 @@ use Rattle.lists.specs.Cells.{Entry}
 use Rattle.lists.proofs.Laws.{by-cases, all-take, all-drop, all-weaken, opposite}
 use Rattle.page.specs.Pages.{page, begins, ends, pagesFor}
 use Rattle.page.specs.Rules.{mayCarry, leastCount, entryOk, serialOk, marksOk, ruled, lawful}
-use Rattle.index.specs.Index.{entryAllowed, entriesAllowed}
 use Rattle.state.specs.State.{basePages}
 use Rattle.recovery.specs.Recovery.{Placed, placed, kindOf, Group, Walk, between, inside, stray, joined, begun, continues, enter, groupsOf, entriesOf}
 use Rattle.step.specs.Step.{isLast, flagsOf, groupPage}
@@ -91,17 +90,12 @@ part-enough es k least h m =
     (λ e. rw e (omega (arith, part-length es k, h (leb-true (length es) (24 * suc k) e))))
     (λ e. let g : 24 * suc k < length es = leb-false (length es) (24 * suc k) e in rw e (omega (arith, part-length es k)))
 
--- an entry that 11 allows keeps the page rules, in kind 1 and in kind 4
-pub allowed-lawful : (kind : ℕ) → eqb kind 1 || eqb kind 4 ≡ true → (e : Entry) → entryAllowed e ≡ true → entryOk kind e ≡ true
-unfolding entryAllowed entryOk
-allowed-lawful kind k e h = by-cases (ltb (e .key) 32768) (λ q. rw q) (λ q. rw (q, k) (rw q at h))
-
-pub lawful-nodes : (es : List Entry) (k s : ℕ) → entriesAllowed es ≡ true → k < pagesFor (length es) → 1 ≤ length es → 1 ≤ s → s + 1 ≤ 2 ^ 64 - 1 → lawful (groupPage 1 es k s) ≡ true
-unfolding groupPage pagesFor entriesAllowed
+pub lawful-nodes : (es : List Entry) (k s : ℕ) → all (entryOk 1) es ≡ true → k < pagesFor (length es) → 1 ≤ length es → 1 ≤ s → s + 1 ≤ 2 ^ 64 - 1 → lawful (groupPage 1 es k s) ≡ true
+unfolding groupPage pagesFor
 lawful-nodes es k s r n l p q =
     lawful-page 1 (flagsOf (eqb k 0) (isLast k (length es))) s (take 24 (drop (24 * k) es)) refl
     (rw (least-nodes (eqb k 0) (isLast k (length es))) (part-enough es k 1 (λ h. omega arith) (omega arith)))
-    (all-weaken entryAllowed (entryOk 1) (allowed-lawful 1 refl) (take 24 (drop (24 * k) es)) (part-ok entryAllowed es k r)) p q
+    (part-ok (entryOk 1) es k r) p q
 
 -- an entry whose key is a valve is fit for any kind
 valve-ok : (kind : ℕ) (es : List Entry) → all (λ e. ltb (e .key) 32768) es ≡ true → all (entryOk kind) es ≡ true

@@ -16,10 +16,9 @@ use Rattle.page.specs.Rules.{entryOk}
 use Rattle.page.specs.Buffer.{gathered, holding}
 use Rattle.page.proofs.Buffer.{filled, Fitting, gathered-holding}
 use Rattle.page.proofs.More.{changes-snoc}
-use Rattle.index.specs.Index.{within, entryAllowed, entriesAllowed}
+use Rattle.index.specs.Index.{within, entriesAllowed}
 use Rattle.state.specs.State.{Pending, idle, append, commit, collect, format, flush, unnamed, Held, fit, flushOk, groupsFit, bufferFit, fitWith, bufferedIn, isIdle}
 use Rattle.valve_log.specs.History.{UnderWay, appending, committing, flushing, History, history, counted}
-use Rattle.valve_log.proofs.Groups.{allowed-lawful}
 use Rattle.valve_log.proofs.Index.{keys-append}
 use Rattle.valve_log.proofs.Small.{Small}
 
@@ -36,7 +35,6 @@ Beside unnamed u gs = Unit {0}
 pub record Lent (s : Held) (b : List ℕ) (h : History) : Type 0 where
   pub holds : b ≡ holding (h .buffered)
   pub fits-in : Fitting (h .buffered)
-  pub allowed : entriesAllowed (changesOf (h .buffered)) ≡ true
   pub count : within (s .index) (changesOf (h .buffered)) ≡ true
   pub beside : Beside (s .pending) (h .underWay) (h .buffered)
 
@@ -61,10 +59,6 @@ lent-groups l = rw (lent-gathered l)
 pub state-fit : (v : List View) (s : Held) (b : List ℕ) → fitWith v s b ≡ true → fit v s ≡ true
 unfolding fitWith
 state-fit v s b w = every-at 0 _ w
-
-pub lent-fit : (v : List View) {s : Held} {b : List ℕ} {h : History} → Lent s b h → fitWith v s b ≡ true → groupsFit (s .index) (s .pending) (h .buffered) ≡ true
-unfolding fitWith bufferFit
-lent-fit v {s} {b} L w = let g : bufferFit s (gathered b) ≡ true = every-at 1 _ w in rw (lent-gathered L) at g
 
 -- ---- nothing buffered
 
@@ -102,7 +96,6 @@ lent-none s b h e g n =
     record {
       holds = e ∙ (unfold holding in sym (ap holding g));
       fits-in = rw g fitting-none;
-      allowed = rw g (unfold changesOf entriesAllowed all in refl);
       count = rw g (unfold changesOf within in refl);
       beside = beside-none (s .pending) (h .underWay) (h .buffered) n g;
     }
@@ -133,7 +126,7 @@ kept-commit h (suc (suc n)) = refl
 
 -- ---- a group more
 
-all-join : (f : Entry → Bool) (a b : List Entry) → all f a ≡ true → all f b ≡ true → all f (a ++ b) ≡ true
+pub all-join : (f : Entry → Bool) (a b : List Entry) → all f a ≡ true → all f b ≡ true → all f (a ++ b) ≡ true
 all-join f [] b x y = y
 all-join f (e ∷ a) b x y = all-cons f e (a ++ b) (all-head f e a x) (all-join f a b (all-tail f e a x) y)
 
@@ -142,19 +135,15 @@ unfolding wordsOf
 words-append [] b = refl
 words-append (e ∷ a) b = rw (words-append a b)
 
-fitting-more : (gs : List (List Entry)) (es : List Entry) → Fitting gs → Small es → 1 ≤ length es → length (changesOf gs) + length es ≤ 16 → entriesAllowed es ≡ true → Fitting (gs ++ (es ∷ []))
+fitting-more : (gs : List (List Entry)) (es : List Entry) → Fitting gs → Small es → 1 ≤ length es → length (changesOf gs) + length es ≤ 16 → all (entryOk 4) es ≡ true → Fitting (gs ++ (es ∷ []))
 fitting-more gs es F S one few r =
     record {
       each = all-snoc filled gs es ∙ and-both (F .each) (le-leb 1 (length es) one);
       few = rw (changes-snoc gs es) (omega (arith, length-append (changesOf gs) es));
-      entries = rw (changes-snoc gs es) (all-join (entryOk 4) (changesOf gs) es (F .entries) (all-weaken entryAllowed (entryOk 4) (allowed-lawful 4 refl) es (unfold entriesAllowed in r)));
+      entries = rw (changes-snoc gs es) (all-join (entryOk 4) (changesOf gs) es (F .entries) r);
       keys = rw (changes-snoc gs es, keys-append (changesOf gs) es) (below-append (keysOf (changesOf gs)) (keysOf es) (F .keys) (S .keys));
       words = rw (changes-snoc gs es, words-append (changesOf gs) es) (below-append (wordsOf (changesOf gs)) (wordsOf es) (F .words) (S .words));
     }
-
-allowed-more : (a b : List Entry) → entriesAllowed a ≡ true → entriesAllowed b ≡ true → entriesAllowed (a ++ b) ≡ true
-unfolding entriesAllowed
-allowed-more a b x y = all-join entryAllowed a b x y
 
 beside-idle : (p : Pending) (u : UnderWay) (gs : List (List Entry)) → isIdle p ≡ true → Beside p u gs
 unfolding isIdle Beside
@@ -167,13 +156,12 @@ beside-idle flush u gs n = true-false n refl
 beside-idle unnamed u gs n = true-false n refl
 
 pub lent-more : {s : Held} {b : List ℕ} {h : History} → Lent s b h → (es : List Entry) → isIdle (s .pending) ≡ true → Small es → 1 ≤ length es → length (changesOf (bufferedIn b)) + length es ≤ 16
-    → entriesAllowed es ≡ true → within (s .index) (changesOf (bufferedIn b) ++ es) ≡ true
+    → all (entryOk 4) es ≡ true → within (s .index) (changesOf (bufferedIn b) ++ es) ≡ true
     → Lent s (holding (bufferedIn b ++ (es ∷ []))) (history (h .settings) (h .log) (h .underWay) (h .buffered ++ (es ∷ [])))
 lent-more {s} {b} {h} L es i S one few r w =
     record {
       holds = ap (λ (t : List (List Entry)). holding (t ++ (es ∷ []))) g;
       fits-in = fitting-more (h .buffered) es (L .fits-in) S one (rw g at few) r;
-      allowed = rw (changes-snoc (h .buffered) es) (allowed-more (changesOf (h .buffered)) es (L .allowed) r);
       count = rw (changes-snoc (h .buffered) es) (rw g at w);
       beside = beside-idle (s .pending) (h .underWay) (h .buffered ++ (es ∷ [])) i;
     }
@@ -198,6 +186,6 @@ groups-fit index (format n) u gs F w B = refl
 groups-fit index flush u gs F w B = flush-fit index gs F (B .1) w
 groups-fit index unnamed u gs F w B = refl
 
-pub with-fit : (v : List View) {s : Held} {b : List ℕ} {h : History} → Lent s b h → fit v s ≡ true → fitWith v s b ≡ true
+pub with-fit : (v : List View) {s : Held} {b : List ℕ} {h : History} → Lent s b h → entriesAllowed (changesOf (h .buffered)) ≡ true → fit v s ≡ true → fitWith v s b ≡ true
 unfolding fitWith bufferFit every
-with-fit v {s} {b} {h} L f = rw (f, lent-gathered L, groups-fit (s .index) (s .pending) (h .underWay) (h .buffered) (L .allowed) (L .count) (L .beside))
+with-fit v {s} {b} {h} L A f = rw (f, lent-gathered L, groups-fit (s .index) (s .pending) (h .underWay) (h .buffered) A (L .count) (L .beside))

@@ -43,7 +43,7 @@ all-seen f n (whole x ∷ v) (suc p) pg a e = all-seen f (suc n) v p pg (all-tai
 
 pub older-answers : OlderAnswers
 unfolding OlderAnswers olderRecover under
-older-answers later answer m p pg size e k =
+older-answers most later answer m p pg size e k =
     by-cases (olderAll (wholes 0 (views m))) (λ a. absurd (unlawful pg k few (all-seen olderLawful 0 (views m) p pg (unfold olderAll in a) e))) (λ a. rw (size, a))
   where
     few : length (pg .entries) ≤ 24

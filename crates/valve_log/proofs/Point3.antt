@@ -13,14 +13,16 @@ use Rattle.page.specs.Pages.{View}
 use Rattle.flash.specs.Medium.{views}
 use Rattle.nodes.specs.Nodes.{wordAt, sound, words}
 use Rattle.valve_log.specs.History.{History}
-use Rattle.valve_log.specs.Reached.{World, Reached, Words, Point3}
+use Rattle.valve_log.specs.Reached.{World, fresh, Reached, Words, Shows, Point3}
 use Rattle.valve_log.proofs.Sound.{outcome, accepts}
-use Rattle.valve_log.proofs.Events.{Upheld, happen-good}
+use Rattle.valve_log.proofs.Events.{Upheld, cut-good, happen-good}
 use Rattle.valve_log.proofs.Formats.{in-format, starts}
+use Rattle.valve_log.proofs.ValveZero.{before-upheld}
 
 pub reached-upheld : (w : World) (h : History) → Reached w h → Upheld w h
 reached-upheld w h (Reached.start v F e) = starts (v .medium) (v .buffer) (v .state) (in-format v F) e .upheld
 reached-upheld w h (Reached.next v g e r) = happen-good (v .medium) (v .state) (v .buffer) g e (reached-upheld v g r)
+reached-upheld w h (Reached.takenOver {w = v} {h = g} b) = cut-good (v .medium) (v .state) (v .buffer) fresh g (before-upheld v g b)
 
 -- the words of a sound index, place by place
 words-of : (v : List View) (l : List Place) → sound v l ≡ true → Words v l (words v l)
@@ -33,10 +35,9 @@ words-of v (x ∷ l) h =
     has none e = true-false e (unfold isSome in refl)
     has (some w) e = unfold valueOr in refl
 
-pub point3 : Point3
-unfolding Point3
-point3 w h r =
-    let U = reached-upheld w h r in
+-- what the invariant says of recovery
+pub upheld-shows : (w : World) (h : History) → Upheld w h → Shows (w .medium) h
+upheld-shows w h U =
     let M = U .coupled .medium in
     record {
       log = h .log;
@@ -45,3 +46,7 @@ point3 w h r =
       same-log = refl;
       same-settings = unfold outcome in rw (M .shows) at (words-of (views (w .medium)) _ (M .sounds));
     }
+
+pub point3 : Point3
+unfolding Point3
+point3 w h r = upheld-shows w h (reached-upheld w h r)

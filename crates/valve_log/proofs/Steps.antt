@@ -14,18 +14,17 @@ use Rattle.lists.specs.Needs.{under}
 use Rattle.lists.specs.Cells.{cell, Entry, Place, Setting, keysOf}
 use Rattle.lists.proofs.Laws.{every-at, all-head, or-right}
 use Rattle.page.specs.Pages.{Page, View, whole, page, begins, ends, isClean, pagesFor, changesOf}
-use Rattle.page.specs.Rules.{serialOk, lawful}
+use Rattle.page.specs.Rules.{serialOk, entryOk, lawful}
 use Rattle.page.specs.Buffer.{groupsIn, groupsPage}
 use Rattle.page.proofs.Buffer.{filled, Fitting, lawful-groups, groups-back}
 use Rattle.flash.specs.Medium.{seen}
 use Rattle.flash.proofs.Steps.{seen-set}
 use Rattle.index.specs.Index.{rising, within, assignAll}
 use Rattle.nodes.specs.Nodes.{setsValves, wordAt, words}
-use Rattle.state.specs.State.{idle, append, commit, collect, Held, held, basePages, groupOk, flushOk}
+use Rattle.state.specs.State.{idle, append, commit, collect, Held, held, basePages}
 use Rattle.recovery.specs.Recovery.{Placed, placed, kindOf, wholes, sort, baseOf, startsGroup, goesOn, from, consecutive, Group, group}
 use Rattle.recovery.specs.Recovery.{between, joined, begun, walk, groupsOf, entriesOf, groupsOnPages, entersLog, logOfGroup, logOf, pagesOf, above, enterPages}
 use Rattle.recovery.proofs.Pages.{pages-append}
-use Rattle.calls.proofs.Laws.{some-groups}
 use Rattle.step.specs.Step.{isLast, groupPage, headAfter, addressed, appended, committed, collected, flushed}
 use Rattle.valve_log.specs.History.{nothing, appending, committing, collecting, flushing, History, history, assignGroups, counted}
 use Rattle.valve_log.proofs.Order.{from-parts, from-from, from-sort, walk-append, isBegin, base-snoc, base-group, starts-one}
@@ -42,7 +41,7 @@ use Rattle.valve_log.proofs.Groups.{lay, ends-page, begins-page, page-m
 use Rattle.valve_log.proofs.Groups.{lay-kind, lay-begins, Opened, enter-begin, enter-page, opened-any}
 use Rattle.valve_log.proofs.Replay.{enter-pages-append, enter-group, enter-base, log-append, addressed-laid, addressed-one}
 use Rattle.valve_log.proofs.Sound.{Sound, grown}
-use Rattle.valve_log.proofs.Coupling.{at-rest, in-append, in-commit, in-collect, alive, Coupled, Fits}
+use Rattle.valve_log.proofs.Coupling.{at-rest, in-append, in-commit, in-collect, alive, Coupled, Fits, Let-in}
 
 -- ---- the history's count of pages
 
@@ -235,7 +234,7 @@ module _ (v : List View) (s : Held) (h : History) {ch : List Placed} {gs : List 
 
   module _ (es : List Entry) (ps : List ℕ) (left f p : ℕ) (small : Small es) (lefts : left + length ps ≡ pagesFor (length es)) (firsts : f + length ps ≡ s .head .serial)
       (openeds : Opened 1 (walk (between []) ch) gs (lay 1 es 0 f ps)) (presents : PresentAll v (lay 1 es 0 f ps))
-      (okays : groupOk (s .index) es ≡ true) (fewer : length ps < pagesFor (length es)) (starts : 1 ≤ s .head .serial)
+      (okays : Let-in (s .index) es) (fewer : length ps < pagesFor (length es)) (starts : 1 ≤ s .head .serial)
       (room : s .head .serial + 1 ≤ 2 ^ 64 - 1) (cleans : isClean (seen v p) ≡ true) where
     abbrev serial : ℕ
     serial = s .head .serial
@@ -247,13 +246,13 @@ module _ (v : List View) (s : Held) (h : History) {ch : List Placed} {gs : List 
     written = laid 1 es ps f p serial
 
     ap-many : 1 ≤ length es
-    ap-many = unfold groupOk in leb-true 1 (length es) (every-at 0 _ okays)
+    ap-many = okays .many
 
     ap-most : length es ≤ 96
-    ap-most = unfold groupOk in leb-true (length es) 96 (every-at 1 _ okays)
+    ap-most = okays .most
 
     pub ap-lawful : lawful pg ≡ true
-    ap-lawful = lawful-nodes es (length ps) serial (unfold groupOk in every-at 2 _ okays) fewer ap-many starts room
+    ap-lawful = lawful-nodes es (length ps) serial (okays .lawfuls) fewer ap-many starts room
 
     ap-short : length ps < 4
     ap-short = let a = ap-most in unfold pagesFor in omega (arith, fewer)
@@ -327,7 +326,7 @@ module _ (v : List View) (s : Held) (h : History) {ch : List Placed} {gs : List 
         entries-are = laid-entries 1 es ps f p serial firsts e
 
         within-is : within (s .index) (nodesOf written) ≡ true
-        within-is = within-same (s .index) (s .index) (nodesOf written) es refl (keys-group written ∙ ap keysOf entries-are) ∙ (unfold groupOk in every-at 3 _ okays)
+        within-is = within-same (s .index) (s .index) (nodesOf written) es refl (keys-group written ∙ ap keysOf entries-are) ∙ okays .counts
 
         log-is : h .log ++ logOf (group 1 written ∷ []) ≡ h .log ++ (es ∷ [])
         log-is = unfold logOf logOfGroup entersLog in ap (λ (z : List Entry). h .log ++ (z ∷ [])) entries-are
@@ -517,13 +516,13 @@ module _ (v : List View) (s : Held) (h : History) {ch : List Placed} {gs : List 
 
   -- ---- the page of a flush
 
-  module _ (small : List (List Entry)) (p : ℕ) (fitting : Fitting small) (okays : flushOk (s .index) small ≡ true)
+  module _ (small : List (List Entry)) (p : ℕ) (fitting : Fitting small) (some-group : 1 ≤ length small) (counts : within (s .index) (changesOf small) ≡ true)
       (starts : 1 ≤ s .head .serial) (room : s .head .serial + 1 ≤ 2 ^ 64 - 1) (cleans : isClean (seen v p) ≡ true) where
     abbrev fp : Page
     fp = groupsPage (s .head .serial) small
 
     fl-many : 1 ≤ length (changesOf small)
-    fl-many = some-entries small (fitting .each) (unfold flushOk in some-groups small (every-at 0 _ okays))
+    fl-many = some-entries small (fitting .each) some-group
 
     pub fl-lawful : lawful fp ≡ true
     fl-lawful = lawful-groups (s .head .serial) small fitting fl-many (serial-ok (s .head .serial) starts room)
@@ -537,7 +536,7 @@ module _ (v : List View) (s : Held) (h : History) {ch : List Placed} {gs : List 
     fl-nodes = addressed-one (changesOf small) p (omega (arith, fitting .few)) ∙ sym (append-nil (nodes (24 * p) (changesOf small)))
 
     fl-within : within (s .index) (nodesOf (placed p fp ∷ [])) ≡ true
-    fl-within = within-same (s .index) (s .index) (nodesOf (placed p fp ∷ [])) (changesOf small) refl (keys-group (placed p fp ∷ []) ∙ ap keysOf fl-entries) ∙ (unfold flushOk in every-at 2 _ okays)
+    fl-within = within-same (s .index) (s .index) (nodesOf (placed p fp ∷ [])) (changesOf small) refl (keys-group (placed p fp ∷ []) ∙ ap keysOf fl-entries) ∙ counts
 
     fl-walk : walk (between []) (ch ++ (placed p fp ∷ [])) ≡ between (gs ++ (group 4 (placed p fp ∷ []) ∷ []))
     unfolding walk begins ends begun joined groupsPage

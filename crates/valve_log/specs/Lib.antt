@@ -10,3 +10,4 @@ pub mod Settings
 pub mod Flushable
 pub mod Older
 pub mod SinceCommit
+pub mod ValveZero

@@ -2,7 +2,7 @@
 use mathlib.Core.Path.{_≡_}
 use mathlib.Core.Bool.{Bool, true, cond, _&&_, _||_}
 use mathlib.Core.List.{List, [], _∷_}
-use Prim.Native.Nat.{ℕ}
+use Prim.Native.Nat.{ℕ, _/_, _%_}
 use lib.ListN.{length}
 use lib.Dec.{leb, ltb, eqb}
 use Rattle.lists.specs.Lists.{all, every}
@@ -11,7 +11,6 @@ use Rattle.lists.specs.Cells.{Entry}
 use Rattle.page.specs.Pages.{Page, View, whole}
 use Rattle.page.specs.Rules.{serialOk}
 use Rattle.flash.specs.Medium.{views, seen}
-use Rattle.blocks.specs.Blocks.{sizeOk}
 use Rattle.recovery.specs.Recovery.{Placed, wholes, Recovery}
 
 -- "flags: 1 begins a group, 2 ends it, 3 both, 0 neither"; "Kind 3 always has flags 3". There are kinds 1 to 3.
@@ -40,12 +39,16 @@ olderLawful pg =
 unfoldable pub olderAll : List Placed → Bool
 olderAll ws = all (λ x. olderLawful (x .page)) ws
 
--- recovery by these rules, with the conditions that come after 1 and 2, and what it gives where all hold
-unfoldable pub olderRecover : List Need → Answer Recovery → ℕ → List View → Answer Recovery
-olderRecover later answer n v = under (need 1 (sizeOk n) ∷ need 2 (olderAll (wholes 0 v)) ∷ later) answer
+-- Condition 1 is the negation, of a reader that takes so many blocks at most: 16 by 01, "length not 4 to 16 × 4096", and 256 since Paper 5.
+unfoldable pub olderSize : ℕ → ℕ → Bool
+olderSize most n = every (eqb (n % 4096) 0 ∷ leb 4 (n / 4096) ∷ leb (n / 4096) most ∷ [])
 
--- whatever these are, it answers 2 to a medium of allowed length with a whole page of kind 4
+-- recovery by these rules, with the conditions that come after 1 and 2, and what it gives where all hold
+unfoldable pub olderRecover : ℕ → List Need → Answer Recovery → ℕ → List View → Answer Recovery
+olderRecover most later answer n v = under (need 1 (olderSize most n) ∷ need 2 (olderAll (wholes 0 v)) ∷ later) answer
+
+-- whatever these are, and so many blocks as it takes, it answers 2 to a medium of a length that it allows with a whole page of kind 4
 unfoldable pub OlderAnswers : Type 0
 OlderAnswers =
-    (later : List Need) (answer : Answer Recovery) (m : List ℕ) (p : ℕ) (pg : Page)
-    → sizeOk (length m) ≡ true → seen (views m) p ≡ whole pg → pg .kind ≡ 4 → olderRecover later answer (length m) (views m) ≡ refused 2
+    (most : ℕ) (later : List Need) (answer : Answer Recovery) (m : List ℕ) (p : ℕ) (pg : Page)
+    → olderSize most (length m) ≡ true → seen (views m) p ≡ whole pg → pg .kind ≡ 4 → olderRecover most later answer (length m) (views m) ≡ refused 2
