@@ -5,7 +5,8 @@
                           in them, and the text after each `old:` stands once in its file
   tools/edits.py errors   after `rt ci` or `rt must-fail`: prints the edits whose first error speaks of the shape of a proof
                           (a need that is gone, a name that is not there, a text that does not parse) and not of a fact that no
-                          longer holds. Their logs stand in target/must-fail; another folder may be given
+                          longer holds, or says something that is not known here. Their logs stand in target/must-fail; another
+                          folder may be given
 
 Run it from the repository's root. Exit status: 0 nothing to say, 1 something is wrong, 2 bad usage."""
 import glob
@@ -17,14 +18,17 @@ from pathlib import Path
 HEADING = "## What is ruled out"
 # A crate between backquotes, or a label beside it; a label has an underscore, and other words of a table have none.
 TOKEN = re.compile(r"`(\w+)`|`[^`]*`|(?<!\w)(\w*_\w*)(?!\w)")
-# What the first error says where an edit changed the shape of a proof and no fact, each with the words for it.
+# What a first error says where a fact no longer holds.
+FACTS = re.compile(r"no proof of|the two types|expected type|does not follow|it is not proved that|give a proof of that"
+                   r"|list the missing equation")
+# What it says where an edit changed the shape of a proof, each with the words for it. The others are read by a person.
 SHAPES = [
     ("a need that is gone", re.compile(r"no `Need-")),
-    ("a name that is not there", re.compile(r"can be named from here|not in scope|no module is found|is no field|has no field")),
-    ("a line that is not used", re.compile(r"\bunused\b|brings nothing|not used")),
-    ("a text that does not parse", re.compile(r"parse|unexpected|expected (a|an|the end|one of|`)(?! ?proof)[^:]{0,60}(, found|here)")),
-    ("a step that the prover did not find by itself", re.compile(r"^`(slice-)?aggregate-step")),
+    ("a name that is not there", re.compile(r"can be named from here|not in scope|has no field")),
+    ("a line that is not used", re.compile(r"\bunused\b")),
     ("only what an earlier error holds back", re.compile(r"was not admitted|admitted by the kernel")),
+    ("a step that the prover did not find by itself", re.compile(r"^`(slice-)?aggregate-step")),
+    ("a rewriting that finds nothing", re.compile(r"`rw`: no occurrence")),
 ]
 ERROR = re.compile(r"^(\S*): error(?:\[[^\]]*\])?: (.*)$")
 NOTE = re.compile(r"^note: (?:what antt said of [^:]*: )?(\S*:\d+:\d+): (.*)$")
@@ -93,9 +97,14 @@ def first_error(log):
     return "", "the log has no error"
 
 
-def shape_of(message):
+def shape_of(place, message):
     """The words for a first error that is no fact, or none."""
-    return next((words for words, form in SHAPES if form.search(message)), None)
+    if not place:
+        return "no error at all"
+    if "/specs/" in place or place.startswith("specs/"):
+        return "a definition that is none"
+    words = next((words for words, form in SHAPES if form.search(message)), None)
+    return words or (None if FACTS.search(message) else "not known to be a fact")
 
 
 def check_errors(folder):
@@ -104,7 +113,7 @@ def check_errors(folder):
     for log in logs:
         crate, label = log.split("/")[-3:-1]
         place, message = first_error(log)
-        words = shape_of(message) if place else "no error at all"
+        words = shape_of(place, message)
         if words:
             wrong.append(f"{crate}/{label}: {words}: {place.split(f'/{label}/')[-1]}: {message[:240]}")
     return len(logs), wrong
@@ -120,7 +129,7 @@ def main(words):
         if not count:
             print(f"edits: no log under {folder}; `rt must-fail` or `rt ci` writes them")
             return 2
-        print("\n".join(wrong + [f"edits: {count} logs, {len(wrong)} whose first error is of the proof's shape"]))
+        print("\n".join(wrong + [f"edits: {count} logs, {len(wrong)} to be looked at"]))
         return 1 if wrong else 0
     if words:
         print(__doc__)
