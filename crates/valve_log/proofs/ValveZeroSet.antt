@@ -42,15 +42,17 @@ module _ (word : ℕ) (e : List Bool) where
 
   begins : appendBefore 16384 four (started 4 e) fresh (0 ∷ []) (word ∷ []) ≡ gives begun
   unfolding
-      appendBefore with11 under every all valueOr allBelow oneIf countBelow blank allOnes isClean pagesFor cleanBytes gathered seen whollyClean put assign risingFrom rising within
-      sizeOk spare available headFit indexFit pendingFit fit isIdle groupsFit bufferFit fitWith bufferedIn zip listsOk roomFor serialsFor holdsNone entryAllowedBefore allowedBefore
+      appendBefore with11 under every all valueOr allBelow oneIf countBelow blank allOnes isClean pagesFor cleanBytes gathered seen whollyClean
+      put assign risingFrom rising within sizeOk spare available headFit indexFit pendingFit fit isIdle groupsFit bufferFit fitWith bufferedIn
+      zip listsOk roomFor serialsFor holdsNone entryAllowedBefore allowedBefore
   begins = refl
 
-  steps : stepBefore 16384 four begun fresh ≡ gives (Step.program 1 (groupPage 1 (zeroTo word) 0 2) (appended begun (zeroTo word) [] 1) true)
+  steps : stepBefore 16384 four begun fresh
+      ≡ gives (Step.program 1 (groupPage 1 (zeroTo word) 0 2) (appended begun (zeroTo word) [] 1) true)
   unfolding
-      stepBefore fitBefore pendingBefore under every all valueOr allBelow oneIf countBelow blank allOnes isClean pagesFor cleanBytes gathered seen whollyClean put assign risingFrom rising within
-      sizeOk pageDue headFit indexFit doneFit pendingFit fit isIdle groupsFit bufferFit fitWith bufferedIn serialsFor entryAllowedBefore allowedBefore
-      isLast programming appendStep due programsDue needsErase erasedFirst
+      stepBefore fitBefore pendingBefore under every all valueOr allBelow blank allOnes isClean pagesFor cleanBytes gathered seen
+      put assign risingFrom rising within sizeOk pageDue headFit indexFit doneFit pendingFit fit isIdle groupsFit bufferFit fitWith bufferedIn
+      serialsFor entryAllowedBefore allowedBefore isLast programming appendStep due programsDue needsErase erasedFirst
   steps = refl
 
 -- ---- the list
@@ -69,7 +71,8 @@ module _ (m : List ℕ) (e : List Bool) (word : ℕ) (small : word < 2 ^ 64) (lo
   first = world m (some (started 4 e)) fresh
 
   appending : Earlier first
-  appending = Earlier.append (0 ∷ []) (word ∷ []) (one-below (2 ^ 16) 0 (omega arith) (omega arith)) (one-below (2 ^ 64) word (omega arith) small)
+  appending =
+      Earlier.append (0 ∷ []) (word ∷ []) (one-below (2 ^ 16) 0 (omega arith) (omega arith)) (one-below (2 ^ 64) word (omega arith) small)
 
   appended-is : happened first appending ≡ moment m (some (begun word e)) fresh (beganAppend (zeroTo word))
   unfolding appending happened withState called zip
@@ -99,28 +102,34 @@ size-of n e = rw e
 
 pub valve-zero-reached : ValveZeroReached
 unfolding ValveZeroReached
-valve-zero-reached m bytes long word small = holds-zero (w .medium) (B .erased) word small same sees (subst (λ (o : Option Held). Before (world (w .medium) o fresh) noHistory) state formatted)
+valve-zero-reached m bytes long word small =
+    holds-zero (w .medium) (B .erased) word small same sees (subst (λ (o : Option Held). Before (world (w .medium) o fresh) noHistory) state formatted)
   where
     size : sizeOk (length m) ≡ true
     size = size-of (length m) long
 
-    w : World
-    w = happen (erasedAll m bytes size) Event.step .after
+    last : World
+    last = erasedAll m bytes size
 
-    F : Formatting (erasedAll m bytes size)
+    w : World
+    w = happen last Event.step .after
+
+    F : Formatting last
     F = all-under-way m bytes size
 
     formatted : Before (lentAnew w) noHistory
-    formatted = Before.start (erasedAll m bytes size) F (over m bytes size)
+    formatted = Before.start last F (over m bytes size)
 
     B : Begins (lentAnew w)
-    B = starts (erasedAll m bytes size .medium) (erasedAll m bytes size .buffer) (erasedAll m bytes size .state) (in-format (erasedAll m bytes size) F) (over m bytes size)
+    B = starts (last .medium) (last .buffer) (last .state) (in-format last F) (over m bytes size)
 
     same : length (w .medium) ≡ 16384
     same = over-length m bytes size ∙ long
 
     pages : B .pages ≡ 63
-    pages = let n : length (views (w .medium)) ≡ suc (B .pages) = ap length (B .sees) ∙ ap suc (length-replicate {A = View} (B .pages) clean) in omega (arith, length-views (w .medium), same)
+    pages =
+        let n : length (views (w .medium)) ≡ suc (B .pages) = ap length (B .sees) ∙ ap suc (length-replicate {A = View} (B .pages) clean) in
+        omega (arith, length-views (w .medium), same)
 
     sees : views (w .medium) ≡ four
     sees = B .sees ∙ ap (λ (k : ℕ). whole basePage ∷ replicate k clean) pages
