@@ -20,13 +20,12 @@ use Rattle.recover.specs.Recovers.{Recovers}
 use Rattle.readings.specs.Readings.{filedLog, readLog}
 use Rattle.filing.specs.Filed.{leaving}
 use Rattle.log_reader.specs.declared.LogPlace.{LogPlace}
-use Rattle.log_reader.specs.declared.LogReader.{LogReader}
 use Rattle.log_reader.specs.Reader.{startOf, refusedPlace, over, AskedInTurn}
 use Rattle.log_reader.proofs.FirstToLast.{first-to-last}
 use Rattle.log_reader.proofs.Form.{answers, form-first-to-last}
 use Rattle.spans.specs.Spans.{spanEffect, effectOf}
 use Rattle.mattered.specs.Mattered.{mattered, listedIn, readMattered}
-use Rattle.valve_log.specs.History.{History, history, nothing, tell}
+use Rattle.valve_log.specs.History.{History, history, nothing}
 use Rattle.valve_log.specs.Reached.{World, Event, happen, Earlier, happened, Before, Reached, Shows, Point3}
 use Rattle.valve_log.proofs.Point3.{reached-upheld, point3}
 use Rattle.fading.specs.Fading.{Faded, AsThen, RefusedWith4To6}

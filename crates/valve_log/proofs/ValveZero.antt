@@ -1,13 +1,13 @@
 -- The list of the program as it was before Paper 8 keeps the invariant: its events that differ from today's do.
 use mathlib.Core.Path.{_≡_, refl}
-use mathlib.Core.Bool.{Bool, true, not, _||_}
+use mathlib.Core.Bool.{true, not, _||_}
 use mathlib.Core.Option.{Option, none, some}
-use mathlib.Core.List.{List, [], _∷_, _++_}
+use mathlib.Core.List.{List, [], _∷_}
 use Prim.Native.Nat.{ℕ}
 use lib.Dec.{ltb, eqb}
 use lib.ListN.{length}
 use borrow.Author.Tests.{leb-true, ltb-true}
-use Rattle.lists.specs.Lists.{all, every}
+use Rattle.lists.specs.Lists.{all}
 use Rattle.lists.specs.Needs.{Answer, refused, need}
 use Rattle.lists.specs.Cells.{Entry}
 use Rattle.lists.proofs.Laws.{by-cases, every-at, tests, all-weaken, checked-cases}
@@ -15,14 +15,14 @@ use Rattle.page.specs.Pages.{View, pagesFor}
 use Rattle.page.specs.Rules.{entryOk}
 use Rattle.flash.specs.Medium.{views}
 use Rattle.blocks.specs.Blocks.{sizeOk}
-use Rattle.state.specs.State.{Pending, idle, append, commit, collect, format, flush, unnamed, Held, doneFit, pendingFit, isIdle, fitWith, bufferedIn}
+use Rattle.state.specs.State.{Pending, idle, append, commit, collect, format, flush, unnamed, Held, doneFit, isIdle, fitWith, bufferedIn}
 use Rattle.calls.specs.Calls.{starting, zip, appendNeeds, flushNeeds, bufferNeeds}
 use Rattle.step.specs.Step.{Step, due, erasedFirst}
 use Rattle.valve_log.specs.History.{History, tell}
 use Rattle.valve_log.specs.Reached.{World, world, withState, CutOf, stepped, stepDueBefore, Earlier, happened, Before}
 use Rattle.valve_log.specs.ValveZero.{entryAllowedBefore, allowedBefore, with11, appendBefore, bufferBefore, flushBefore, pendingBefore, fitBefore, stepBefore}
 use Rattle.valve_log.proofs.Small.{words-small}
-use Rattle.valve_log.proofs.Coupling.{Fits, fits, Let-in, Awaited, awaited}
+use Rattle.valve_log.proofs.Coupling.{Fits, fits, Awaited, awaited}
 use Rattle.valve_log.proofs.Lent.{lent-of, state-fit}
 use Rattle.valve_log.proofs.Due.{Good, refused-good, awaited-good}
 use Rattle.valve_log.proofs.Events.{Upheld, Follows, few-views, append-good, flush-good, buffer-good, step-goes, cut-goes, happen-good}

@@ -1,16 +1,16 @@
 -- A list of the program as it was before Paper 8 that sets valve 0: formatting, the append of one entry, and its step.
-use mathlib.Core.Path.{_≡_, refl, sym, ap, subst, _∙_}
+use mathlib.Core.Path.{_≡_, refl, ap, subst, _∙_}
 use mathlib.Core.Bool.{Bool, true}
 use mathlib.Core.Option.{Option, some}
 use mathlib.Core.List.{List, [], _∷_}
-use Prim.Native.Nat.{ℕ, zero, suc, _/_, _^_, _≤_, _<_}
+use Prim.Native.Nat.{ℕ, zero, suc, _/_, _^_, _<_}
 use native.Mathlib.Omega.{arith}
 use lib.ListN.{length, getD, replicate, length-replicate}
-use Rattle.lists.specs.Lists.{all, every, valueOr, allBelow, oneIf, countBelow, Below, Bytes}
-use Rattle.lists.specs.Needs.{Answer, gives, under}
+use Rattle.lists.specs.Lists.{all, every, valueOr, allBelow, oneIf, countBelow, Below}
+use Rattle.lists.specs.Needs.{gives, under}
 use Rattle.lists.specs.Cells.{cell, Entry}
 use Rattle.codec.specs.Codec.{blank, allOnes}
-use Rattle.page.specs.Pages.{Page, View, clean, whole, isClean, pagesFor}
+use Rattle.page.specs.Pages.{View, clean, whole, isClean, pagesFor}
 use Rattle.page.specs.Layout.{cleanBytes}
 use Rattle.page.specs.Buffer.{gathered}
 use Rattle.flash.specs.Medium.{views, seen, whollyClean, programmed}
@@ -21,7 +21,7 @@ use Rattle.state.specs.State.{Held, append, headFit, indexFit, doneFit, pending
 use Rattle.calls.specs.Calls.{starting, zip, listsOk, roomFor, serialsFor, holdsNone}
 use Rattle.step.specs.Step.{Step, isLast, groupPage, appended, programming, appendStep, due, programsDue, needsErase, erasedFirst, mediumAfter, bufferAfter}
 use Rattle.valve_log.specs.History.{nothing, history, start as noHistory, beganAppend, steppedPage, counted, tell}
-use Rattle.valve_log.specs.Reached.{World, world, fresh, lentAnew, withState, Event, Moment, moment, called, stepped, happen, Formatting, stepDueBefore, Earlier, happened, Before, Reached}
+use Rattle.valve_log.specs.Reached.{World, world, fresh, lentAnew, withState, Event, Moment, moment, called, stepped, happen, Formatting, stepDueBefore, Earlier, happened, Before}
 use Rattle.valve_log.specs.ValveZero.{entryAllowedBefore, allowedBefore, with11, appendBefore, pendingBefore, fitBefore, stepBefore}
 use Rattle.valve_log.specs.Finished.{HoldsValveZero, ValveZeroReached}
 use Rattle.valve_log.proofs.Formats.{Begins, basePage, started, in-format, starts}
@@ -94,7 +94,7 @@ module _ (m : List ℕ) (e : List Bool) (word : ℕ) (small : word < 2 ^ 64) (lo
       subst (λ (t : Moment). Before (t .after) (tell noHistory (t .told))) appended-is (Before.next first noHistory appending b) in
       let b₂ = subst (λ (t : Moment). Before (t .after) (tell (tell noHistory (beganAppend (zeroTo word))) (t .told))) stepped-is
       (Before.next (world m (some (begun word e)) fresh) (tell noHistory (beganAppend (zeroTo word))) Earlier.step b₁) in
-      record { world = _; reached = subst (Reached _) told-is (Reached.takenOver b₂) }
+      record { world = _; before = subst (Before _) told-is b₂ }
 
 size-of : (n : ℕ) → n ≡ 16384 → sizeOk n ≡ true
 unfolding sizeOk every
