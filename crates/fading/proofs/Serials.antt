@@ -56,10 +56,12 @@ module _ (v : List View) (s : Held) where
   due-keeps gs unnamed = refused-keeps 7
 
 -- whatever is asked before the step
-pub step-keeps : (cs : List Need) (v : List View) (s : Held) (gs : List (List Entry)) → KeepsHead s (under cs (erasedFirst v s (due v s gs (s .pending))))
+pub step-keeps : (cs : List Need) (v : List View) (s : Held) (gs : List (List Entry))
+    → KeepsHead s (under cs (erasedFirst v s (due v s gs (s .pending))))
 step-keeps cs v s gs =
     checked-cases (KeepsHead s) cs _ (refused-keeps v s)
-    (λ e. first-cases (KeepsHead s) v s (due v s gs (s .pending)) (λ r. unfold KeepsHead erasing in refl) (λ r. due-keeps v s gs (s .pending)))
+    (λ e. first-cases (KeepsHead s) v s (due v s gs (s .pending)) (λ r. unfold KeepsHead erasing in refl)
+    (λ r. due-keeps v s gs (s .pending)))
 
 -- ---- the next serial
 

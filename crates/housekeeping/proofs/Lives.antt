@@ -315,16 +315,20 @@ event-places m (some s) bs h Event.flush U r P =
     unfold flushOf StateReady in
     call-stands m s bs h U r P beganFlush (flushNeeds (length m) (views m) s bs) (starting s flush) (begun-stands m s bs h U r P flush (λ k q. absurd (no-flush k q)))
 event-places m none bs h Event.step U r P = unfold stepped in P
-event-places m (some s) bs h Event.step U r P = unfold StateReady in stepped-places m s bs h U r P (stepOf (length m) (views m) s bs) (due-good m s bs h U) (unfold stepOf in steps m s bs h U r P _)
+event-places m (some s) bs h Event.step U r P =
+    unfold StateReady in
+    stepped-places m s bs h U r P (stepOf (length m) (views m) s bs) (due-good m s bs h U) (unfold stepOf in steps m s bs h U r P _)
 event-places m s bs h Event.recover U r P = recover-places m s bs h U P
 event-places m s bs h Event.read U r P = P
 event-places m s bs h Event.cut U r P = lost-state P
 event-places m none bs h (Event.cutInside left c) U r P = absurd (unfold CutOf in c)
-event-places m (some s) bs h (Event.cutInside left c) U r P = unfold StateReady in cut-places m s bs h U r P (stepOf (length m) (views m) s bs) (due-good m s bs h U) (unfold stepOf in steps m s bs h U r P _) left c
+event-places m (some s) bs h (Event.cutInside left c) U r P =
+    unfold StateReady in
+    cut-places m s bs h U r P (stepOf (length m) (views m) s bs) (due-good m s bs h U) (unfold stepOf in steps m s bs h U r P _) left c
 
 -- and so one of the program before Paper 8
-earlier-places : (m : List ℕ) (s : Option Held) (bs : List ℕ) (h : History) (e : Earlier (world m s bs)) → Upheld (world m s bs) h → StateReady (views m) s → Placing (views m) s
-    → Placing (views (happened (world m s bs) e .after .medium)) (happened (world m s bs) e .after .state)
+earlier-places : (m : List ℕ) (s : Option Held) (bs : List ℕ) (h : History) (e : Earlier (world m s bs)) → Upheld (world m s bs) h
+    → StateReady (views m) s → Placing (views m) s → Placing (views (happened (world m s bs) e .after .medium)) (happened (world m s bs) e .after .state)
 unfolding happened withState stepDueBefore
 earlier-places m s bs h (Earlier.same e) U r P = event-places m s bs h e U r P
 earlier-places m none bs h (Earlier.append ks ws a b) U r P = P
@@ -341,10 +345,12 @@ earlier-places m (some s) bs h Earlier.flush U r P =
     call-stands m s bs h U r P beganFlush _ (starting s flush) (begun-stands m s bs h U r P flush (λ k q. absurd (no-flush k q)))
 earlier-places m none bs h Earlier.step U r P = unfold stepped in P
 earlier-places m (some s) bs h Earlier.step U r P =
-    unfold StateReady in stepped-places m s bs h U r P (stepBefore (length m) (views m) s bs) (due-before m s bs h U) (unfold stepBefore in steps m s bs h U r P _)
+    unfold StateReady in
+    stepped-places m s bs h U r P (stepBefore (length m) (views m) s bs) (due-before m s bs h U) (unfold stepBefore in steps m s bs h U r P _)
 earlier-places m none bs h (Earlier.cutInside left c) U r P = absurd (unfold CutOf in c)
 earlier-places m (some s) bs h (Earlier.cutInside left c) U r P =
-    unfold StateReady in cut-places m s bs h U r P (stepBefore (length m) (views m) s bs) (due-before m s bs h U) (unfold stepBefore in steps m s bs h U r P _) left c
+    unfold StateReady in
+    cut-places m s bs h U r P (stepBefore (length m) (views m) s bs) (due-before m s bs h U) (unfold stepBefore in steps m s bs h U r P _) left c
 
 -- ---- where the list starts
 
@@ -372,12 +378,14 @@ starts-places w B = rw (B .holds) (placing (subst (λ (o : Option Held). Coupled
           based = record { two = λ q pg e n l. record { other = 0; each = λ q′ pg′ e′ l′. inr (let z = zeroth q′ pg′ e′ in omega arith) } };
         }
 
-finished-places : (v : World) → Formatting v → finishes (stepDue v) ≡ true → Placing (views (happen v Event.step .after .medium)) (happen v Event.step .after .state)
+finished-places : (v : World) → Formatting v → finishes (stepDue v) ≡ true
+    → Placing (views (happen v Event.step .after .medium)) (happen v Event.step .after .state)
 finished-places v F e = starts-places (lentAnew (happen v Event.step .after)) (starts (v .medium) (v .buffer) (v .state) (in-format v F) e)
 
 before-places : (w : World) (h : History) → Before w h → Placing (views (w .medium)) (w .state)
 before-places w h (Before.start v F e) = finished-places v F e
-before-places w h (Before.next v g e b) = earlier-places (v .medium) (v .state) (v .buffer) g e (before-upheld v g b) (before-ready v g b) (before-places v g b)
+before-places w h (Before.next v g e b) =
+    earlier-places (v .medium) (v .state) (v .buffer) g e (before-upheld v g b) (before-ready v g b) (before-places v g b)
 
 pub reached-places : (w : World) (h : History) → Reached w h → Placing (views (w .medium)) (w .state)
 reached-places w h (Reached.start v F e) = finished-places v F e

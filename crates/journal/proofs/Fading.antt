@@ -20,21 +20,19 @@ use Rattle.recover.specs.Recovers.{Recovers}
 use Rattle.readings.specs.Readings.{filedLog, readLog}
 use Rattle.filing.specs.Filed.{leaving}
 use Rattle.log_reader.specs.declared.LogPlace.{LogPlace}
-use Rattle.log_reader.specs.declared.LogReader.{LogReader}
 use Rattle.log_reader.specs.Reader.{startOf, refusedPlace, over, AskedInTurn}
 use Rattle.log_reader.proofs.FirstToLast.{first-to-last}
 use Rattle.log_reader.proofs.Form.{answers, form-first-to-last}
 use Rattle.spans.specs.Spans.{spanEffect, effectOf}
 use Rattle.mattered.specs.Mattered.{mattered, listedIn, readMattered}
-use Rattle.valve_log.specs.History.{History, history, nothing, tell}
+use Rattle.valve_log.specs.History.{History, history, nothing}
 use Rattle.valve_log.specs.Reached.{World, Event, happen, Earlier, happened, Before, Reached, Shows, Point3}
-use Rattle.valve_log.proofs.ValveZero.{before-upheld}
 use Rattle.valve_log.proofs.Point3.{reached-upheld, point3}
 use Rattle.fading.specs.Fading.{Faded, AsThen, RefusedWith4To6}
 use Rattle.fading.specs.Made.{groupsCounting, groupsMadeBefore}
 use Rattle.fading.proofs.Standing.{Within, nextSerial, next-within}
 use Rattle.fading.proofs.Same.{accepted, recovers, recover-cases, state-found, serial-found}
-use Rattle.fading.proofs.Moments.{PageChange, happen-change, happened-change, OlderStand, older-apart, Along, along-now, along-next, AtSerial, at-now, at-next, start-next}
+use Rattle.fading.proofs.Moments.{PageChange, happen-change, changed-before, OlderStand, older-apart, Along, along-now, along-next, AtSerial, at-now, at-next, start-next}
 use Rattle.fading.proofs.Fading.{faded-within, next-two, as-since, refused-with-4-to-6}
 use Rattle.fading.proofs.Made.{Tallied, tell-tallied, start-tallied, before-tallied, MadeSince, none-since, more-since, log-among, settings-then}
 use Rattle.journal.specs.Run.{Machine, worldOf, Moves, toldBy, startingOn, Run, Handed}
@@ -54,7 +52,8 @@ now-of {x} {h} r = record { machine = x; history = h; run = r; passed = now }
 abbrev onward-of : {x z : Machine} {h : History} (r : Run x h) (e : Event (worldOf x)) (v : Moves x e z) → MomentOfRun r → MomentOfRun (Run.next x z h e r v)
 onward-of r e v t = record { machine = t .machine; history = t .history; run = t .run; passed = earlier e v (t .passed) }
 
-abbrev older-of : {w : World} {h : History} (b : Before w h) (e : Earlier w) → MomentOfRun (Run.takenOver b) → MomentOfRun (Run.takenOver (Before.next w h e b))
+abbrev older-of : {w : World} {h : History} (b : Before w h) (e : Earlier w) → MomentOfRun (Run.takenOver b)
+    → MomentOfRun (Run.takenOver (Before.next w h e b))
 older-of b e t = record { machine = t .machine; history = t .history; run = t .run; passed = older e (t .passed) }
 
 abbrev mediumThen : {x : Machine} {h : History} (r : Run x h) → MomentOfRun r → List ℕ
@@ -66,15 +65,13 @@ moved x y h e r v =
     let m : y .medium ≡ happen (worldOf x) e .after .medium = ap (λ (w : World). w .medium) (moves x y e v) in
     rw m (happen-change (x .medium) (worldOf x .state) (x .buffer) h e (reached-upheld (worldOf x) h (runs x h r)))
 
--- and an event of the program before Paper 8
-happened-there : (w : World) (h : History) (e : Earlier w) → Before w h → PageChange (w .medium) (happened w e .after .medium)
-happened-there w h e b = happened-change (w .medium) (w .state) (w .buffer) h e (before-upheld w h b)
-
 moment-before : (w : World) (h : History) (b : Before w h) (n : ℕ) → 2 ≤ n → n ≤ nextSerial (views (w .medium))
     → AtSerial (MomentOfRun (Run.takenOver b)) (mediumThen (Run.takenOver b)) (w .medium) n
-moment-before w h (Before.start v F f) n lo hi = at-now (now-of (Run.takenOver (Before.start v F f))) n (let b = start-next v F f in omega arith)
+moment-before w h (Before.start v F f) n lo hi =
+    at-now (now-of (Run.takenOver (Before.start v F f))) n (let b = start-next v F f in omega arith)
 moment-before w h (Before.next v g e b) n lo hi =
-    at-next (v .medium) (now-of (Run.takenOver (Before.next v g e b))) (older-of b e) (λ x. refl) (happened-there v g e b) n (λ k. moment-before v g b n lo k) hi
+    at-next (v .medium) (now-of (Run.takenOver (Before.next v g e b))) (older-of b e) (λ x. refl) (changed-before v g e b) n
+    (λ k. moment-before v g b n lo k) hi
 
 moment-of : (x : Machine) (h : History) (r : Run x h) (n : ℕ) → 2 ≤ n → n ≤ nextSerial (views (x .medium)) → AtSerial (MomentOfRun r) (mediumThen r) (x .medium) n
 moment-of x h (Run.start z y f v last) n lo hi =
@@ -194,7 +191,8 @@ made-since : {y : Machine} {g : History} (q : Run y g) (x : Machine) (h : Histor
 unfolding groupsMadeBy groupsMadeBefore
 made-since q x h r now = none-since (groupsMadeBy q)
 made-since q x h r (earlier {x = x′} {z = z} {h = h′} {r = r′} e v p) = more-since (groupsCounting h′ (toldBy x′ z e v)) (made-since q x′ h′ r′ p)
-made-since q x h r (older {w = w} {h = h′} {b = b} e p) = more-since (groupsCounting h′ (happened w e .told)) (made-since q (startingOn w) h′ (Run.takenOver b) p)
+made-since q x h r (older {w = w} {h = h′} {b = b} e p) =
+    more-since (groupsCounting h′ (happened w e .told)) (made-since q (startingOn w) h′ (Run.takenOver b) p)
 
 -- what is handed depends on log and settings alone
 module _ (m : List ℕ) (g : History) where
@@ -230,7 +228,8 @@ along-run : {y : Machine} {g : History} (q : Run y g) (x : Machine) (h : History
 along-run {y} q x h r now = along-now (y .medium)
 along-run {y} q x h r (earlier {x = x′} {z = z} {h = h′} {r = r′} e v p) = along-next (y .medium) (x′ .medium) (z .medium) (moved x′ z h′ e r′ v) (along-run q x′ h′ r′ p)
 along-run {y} q x h r (older {w = w} {h = h′} {b = b} e p) =
-    along-next (y .medium) (w .medium) (happened w e .after .medium) (happened-there w h′ e b) (along-run q (startingOn w) h′ (Run.takenOver b) p)
+    along-next (y .medium) (w .medium) (happened w e .after .medium) (changed-before w h′ e b)
+    (along-run q (startingOn w) h′ (Run.takenOver b) p)
 
 -- a moment at which the run had passed the moment q
 record From {y : Machine} {g : History} (q : Run y g) (x : Machine) (h : History) (r : Run x h) : Type 0 where
@@ -249,7 +248,7 @@ moment-from q x h r (earlier {x = x′} {z = z} {h = h′} {r = r′} e v p) n l
 moment-from q x h r (older {w = w} {h = h′} {b = b} e p) n lo hi =
     at-next {f = mediumFrom q (startingOn w) h′ (Run.takenOver b)} {g = mediumFrom q x h r} (w .medium)
     (record { moment = now-of (Run.takenOver (Before.next w h′ e b)); passed = older e p })
-    (λ t. record { moment = older-of b e (t .moment); passed = t .passed }) (λ t. refl) (happened-there w h′ e b) n
+    (λ t. record { moment = older-of b e (t .moment); passed = t .passed }) (λ t. refl) (changed-before w h′ e b) n
     (λ k. moment-from q (startingOn w) h′ (Run.takenOver b) p n lo k) hi
 
 -- the next serial of a state recovered

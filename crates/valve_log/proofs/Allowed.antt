@@ -1,5 +1,5 @@
--- What today's program has under way or buffered, its own 11 allows. The medium that the program before Paper 8 left is without a state, and with the
--- state that recovery gives nothing is under way or buffered.
+-- What today's program has under way or buffered, its own 11 allows. A medium that the program before Paper 8 left is taken over without a
+-- state, and with the state that recovery gives nothing is under way or buffered.
 use mathlib.Core.Path.{_≡_, refl}
 use mathlib.Core.Bool.{true}
 use mathlib.Core.Option.{Option, none, some}
@@ -68,17 +68,19 @@ abbrev Keeps : History → Moment → Type 0
 Keeps h t = StateAllowed (t .after .state) (tell h (t .told))
 
 module _ (m : List ℕ) (s : Held) (b : List ℕ) (h : History) (A : Allowed h) where
-  call-allowed : (t : Told) (cs : List Need) (s′ : Held) → (every (tests cs) ≡ true → Allowed (tell h t)) → Keeps h (called (world m (some s) b) t (checked cs s′))
+  call-allowed : (t : Told) (cs : List Need) (s′ : Held) → (every (tests cs) ≡ true → Allowed (tell h t))
+      → Keeps h (called (world m (some s) b) t (checked cs s′))
   call-allowed t cs s′ f =
       checked-cases (λ (r : Answer Held). Keeps h (called (world m (some s) b) t r)) cs (gives s′)
       (λ n. unfold called tell StateAllowed in A) (λ e. unfold called StateAllowed in f e)
 
   -- an operation begun that is no append
-  begun-allowed : (t : Told) (cs : List Need) (s′ : Held) (u : UnderWay) → tell h t ≡ history (h .settings) (h .log) u (h .buffered) → appendedIn u ≡ []
-      → Keeps h (called (world m (some s) b) t (checked cs s′))
+  begun-allowed : (t : Told) (cs : List Need) (s′ : Held) (u : UnderWay) → tell h t ≡ history (h .settings) (h .log) u (h .buffered)
+      → appendedIn u ≡ [] → Keeps h (called (world m (some s) b) t (checked cs s′))
   begun-allowed t cs s′ u i e = call-allowed t cs s′ (λ q. rw i (record { gathers = A .gathers; appends = rw e none-allowed }))
 
-  append-allowed : (ks ws : List ℕ) → Keeps h (called (world m (some s) b) (beganAppend (zip ks ws)) (appendOf (length m) (views m) s b ks ws))
+  append-allowed : (ks ws : List ℕ)
+      → Keeps h (called (world m (some s) b) (beganAppend (zip ks ws)) (appendOf (length m) (views m) s b ks ws))
   unfolding appendOf tests tell appendedIn
   append-allowed ks ws =
       call-allowed (beganAppend (zip ks ws)) (appendNeeds (length m) (views m) s b ks ws) (starting s (Pending.append (zip ks ws) []))
@@ -86,13 +88,17 @@ module _ (m : List ℕ) (s : Held) (b : List ℕ) (h : History) (A : Allowed h) 
 
   put-allowed : (es : List Entry) → entriesAllowed es ≡ true → Allowed (tell h (putIn es))
   unfolding tell entriesAllowed
-  put-allowed es e = record { gathers = rw (changes-snoc (h .buffered) es) (all-join entryAllowed (changesOf (h .buffered)) es (A .gathers) e); appends = A .appends }
+  put-allowed es e =
+      record {
+        gathers = rw (changes-snoc (h .buffered) es) (all-join entryAllowed (changesOf (h .buffered)) es (A .gathers) e);
+        appends = A .appends;
+      }
 
   buffer-allowed : (ks ws : List ℕ) → Keeps h (filled (world m (some s) b) (putIn (zip ks ws)) (bufferOf (length m) (views m) s b ks ws))
   unfolding bufferOf tests
   buffer-allowed ks ws =
-      checked-cases (λ (r : Answer (List ℕ)). Keeps h (filled (world m (some s) b) (putIn (zip ks ws)) r)) (bufferNeeds (length m) (views m) s b ks ws)
-      (gives (holding (bufferedIn b ++ (zip ks ws ∷ []))))
+      checked-cases (λ (r : Answer (List ℕ)). Keeps h (filled (world m (some s) b) (putIn (zip ks ws)) r))
+      (bufferNeeds (length m) (views m) s b ks ws) (gives (holding (bufferedIn b ++ (zip ks ws ∷ []))))
       (λ n. unfold filled tell StateAllowed in A) (λ e. unfold filled StateAllowed in put-allowed (zip ks ws) (every-at 4 _ e))
 
   stepped-allowed : (r : Answer Step) → Keeps h (stepped (world m (some s) b) r)
@@ -112,18 +118,26 @@ unfolding recovered tell appendedIn
 recovered-allowed w h (refused n) A = A
 recovered-allowed w h (gives r) A = unfold StateAllowed in record { gathers = none-buffered; appends = none-allowed }
 
-happen-allowed : (m : List ℕ) (s : Option Held) (b : List ℕ) (h : History) (e : Event (world m s b)) → StateAllowed s h → Keeps h (happen (world m s b) e)
+happen-allowed : (m : List ℕ) (s : Option Held) (b : List ℕ) (h : History) (e : Event (world m s b)) → StateAllowed s h
+    → Keeps h (happen (world m s b) e)
 unfolding happen withState stepDue
 happen-allowed m none b h (Event.append ks ws x y) A = unfold tell in A
 happen-allowed m (some s) b h (Event.append ks ws x y) A = append-allowed m s b h (unfold StateAllowed in A) ks ws
 happen-allowed m none b h Event.commit A = unfold tell in A
-happen-allowed m (some s) b h Event.commit A = unfold commitOf in begun-allowed m s b h (unfold StateAllowed in A) beganCommit _ _ (committing (max 1 (pagesFor (length (h .settings))))) (unfold tell in refl) (unfold appendedIn in refl)
+happen-allowed m (some s) b h Event.commit A =
+    unfold commitOf in
+    begun-allowed m s b h (unfold StateAllowed in A) beganCommit _ _ (committing (max 1 (pagesFor (length (h .settings))))) (unfold tell in refl)
+    (unfold appendedIn in refl)
 happen-allowed m none b h (Event.collect k) A = unfold tell in A
-happen-allowed m (some s) b h (Event.collect k) A = unfold collectOf in begun-allowed m s b h (unfold StateAllowed in A) beganCollect _ _ collecting (unfold tell in refl) (unfold appendedIn in refl)
+happen-allowed m (some s) b h (Event.collect k) A =
+    unfold collectOf in
+    begun-allowed m s b h (unfold StateAllowed in A) beganCollect _ _ collecting (unfold tell in refl) (unfold appendedIn in refl)
 happen-allowed m none b h (Event.buffer ks ws x y) A = unfold tell in A
 happen-allowed m (some s) b h (Event.buffer ks ws x y) A = buffer-allowed m s b h (unfold StateAllowed in A) ks ws
 happen-allowed m none b h Event.flush A = unfold tell in A
-happen-allowed m (some s) b h Event.flush A = unfold flushOf in begun-allowed m s b h (unfold StateAllowed in A) beganFlush _ _ (flushing (h .buffered) 1) (unfold tell in refl) (unfold appendedIn in refl)
+happen-allowed m (some s) b h Event.flush A =
+    unfold flushOf in
+    begun-allowed m s b h (unfold StateAllowed in A) beganFlush _ _ (flushing (h .buffered) 1) (unfold tell in refl) (unfold appendedIn in refl)
 happen-allowed m none b h Event.step A = unfold stepped tell in A
 happen-allowed m (some s) b h Event.step A = stepped-allowed m s b h (unfold StateAllowed in A) (stepOf (length m) (views m) s b)
 happen-allowed m s b h Event.recover A = recovered-allowed (world m s b) h (Recovery.recover (length m) (views m)) A

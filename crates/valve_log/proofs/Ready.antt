@@ -57,7 +57,8 @@ Left v h index unnamed = ⊥
 -- what 7 asks of what is pending, but for 11, which was another before Paper 8
 unfoldable pub pendingWell : List View → Head → List Place → Pending → Bool
 pendingWell v h index idle = true
-pendingWell v h index (append es ps) = every (every (countTests (length es)) ∷ within index es ∷ doneFit (length ps) (h .serial) (pagesFor (length es)) ∷ [])
+pendingWell v h index (append es ps) =
+    every (every (countTests (length es)) ∷ within index es ∷ doneFit (length ps) (h .serial) (pagesFor (length es)) ∷ [])
 pendingWell v h index (commit k) = doneFit k (h .serial) (basePages (length index))
 pendingWell v h index (collect b) = collectible v h b
 pendingWell v h index (format n) = false
@@ -91,13 +92,13 @@ places-fit v blocks (x ∷ l) n a s =
     (places-fit v blocks l n (all-tail (λ (y : Cell). ltb (y .key) 32768) x l a) (all-tail (λ (y : Cell). isSome (wordAt v y)) x l s))
 
 -- with 11 it is all that 7 asks of it
-append-fits : (v : List View) (h : Head) (index : List Place) (es : List Entry) (ps : List ℕ) → entriesAllowed es ≡ true → leb 1 (length es) ≡ true → leb (length es) 96 ≡ true
-    → within index es ≡ true → doneFit (length ps) (h .serial) (pagesFor (length es)) ≡ true → pendingFit v h index (append es ps) ≡ true
+append-fits : (v : List View) (h : Head) (index : List Place) (es : List Entry) (ps : List ℕ) → entriesAllowed es ≡ true
+    → leb 1 (length es) ≡ true → leb (length es) 96 ≡ true → within index es ≡ true → doneFit (length ps) (h .serial) (pagesFor (length es)) ≡ true → pendingFit v h index (append es ps) ≡ true
 unfolding pendingFit groupOk every
 append-fits v h index es ps A low high count done = rw (low, high, A, count, done)
 
-pending-fits : (v : List View) (h : Head) (index : List Place) {serial : ℕ} {ch : List Placed} {gs : List Group} {idx : List Place} (p : Pending) (u : UnderWay)
-    → Pend v serial ch gs idx p u → entriesAllowed (appendedIn u) ≡ true → pendingWell v h index p ≡ true → pendingFit v h index p ≡ true
+pending-fits : (v : List View) (h : Head) (index : List Place) {serial : ℕ} {ch : List Placed} {gs : List Group} {idx : List Place}
+    (p : Pending) (u : UnderWay) → Pend v serial ch gs idx p u → entriesAllowed (appendedIn u) ≡ true → pendingWell v h index p ≡ true → pendingFit v h index p ≡ true
 unfolding pendingWell appendedIn
 pending-fits v h index p u at-rest A f = unfold pendingFit in refl
 pending-fits v h index p u (in-append {es = es} {ps = ps} k a b c d g) A f =
@@ -174,8 +175,8 @@ stays-collectible v h b p x n c =
     rw (lt-ltb b (h .blocks) (f .inside), clean-elsewhere v p b x n, f .used, no-room (headAfter h p (h .base)) b (λ e. n (sym e)), old-elsewhere v p b (h .base) x n, f .old)
 
 -- an append and a commit with some pages done
-pub well-append : (v : List View) (h : Head) (index : List Place) (es : List Entry) (ps : List ℕ) → every (countTests (length es)) ≡ true → within index es ≡ true
-    → length ps < h .serial → length ps < pagesFor (length es) → pendingWell v h index (append es ps) ≡ true
+pub well-append : (v : List View) (h : Head) (index : List Place) (es : List Entry) (ps : List ℕ) → every (countTests (length es)) ≡ true
+    → within index es ≡ true → length ps < h .serial → length ps < pagesFor (length es) → pendingWell v h index (append es ps) ≡ true
 unfolding pendingWell doneFit every
 well-append v h index es ps n w a b = rw (n, w, lt-ltb (length ps) (h .serial) a, lt-ltb (length ps) (pagesFor (length es)) b)
 

@@ -64,13 +64,14 @@ module _ (n : ℕ) (v : List View) (s : Held) (bs : List ℕ) (h : History) (c :
   serial-one = omega (arith, alive-of (c .memory) .serials, c .medium .some-page)
 
   -- whichever 11 is asked among the conditions
-  append-begun : (ks ws : List ℕ) → listsOk ks ws ≡ true → within (s .index) (zip ks ws) ≡ true → roomFor v (s .head) (pagesFor (length ks) + 16) ≡ true
-      → Ready v (starting s (append (zip ks ws) []))
+  append-begun : (ks ws : List ℕ) → listsOk ks ws ≡ true → within (s .index) (zip ks ws) ≡ true
+      → roomFor v (s .head) (pagesFor (length ks) + 16) ≡ true → Ready v (starting s (append (zip ks ws) []))
   append-begun ks ws lists count fits =
       let z = zip-length ks ws (eqb-true (length ks) (length ws) (unfold listsOk in every-at 0 _ lists)) in
       let low : 1 ≤ length ks = leb-true 1 (length ks) (unfold listsOk in every-at 1 _ lists) in
       let high : length ks ≤ 96 = leb-true (length ks) 96 (unfold listsOk in every-at 2 _ lists) in
-      let room : pagesFor (length ks) + 16 ≤ available v (s .head) = leb-true (pagesFor (length ks) + 16) (available v (s .head)) (unfold roomFor in fits) in
+      let room : pagesFor (length ks) + 16 ≤ available v (s .head) =
+      leb-true (pagesFor (length ks) + 16) (available v (s .head)) (unfold roomFor in fits) in
       begun-ready (append (zip ks ws) [])
       (well-append v (s .head) (s .index) (zip ks ws) [] (counted (omega arith) (omega arith)) count serial-one (some-page (omega arith)))
       (left-append v (s .head) (s .index) (zip ks ws) [] (rw z (omega arith)))
@@ -180,21 +181,23 @@ module _ (m : List ℕ) (s : Held) (bs : List ℕ) (h : History) (U : Upheld (wo
       checked-cases (λ (c : Answer (List ℕ)). StateReady (views (filled (world m (some s) bs) t c .after .medium)) (filled (world m (some s) bs) t c .after .state)) cs (gives b)
       (λ n. unfold filled StateReady in r) (λ e. unfold filled StateReady in r)
 
-  stepped-ready : (st : Answer Step) → Good (views m) s bs h st → StepReady (views m) st
-      → StateReady (views (stepped (world m (some s) bs) st .after .medium)) (stepped (world m (some s) bs) st .after .state)
+  abbrev SteppedReady : Answer Step → Type 0
+  SteppedReady st = StateReady (views (stepped (world m (some s) bs) st .after .medium)) (stepped (world m (some s) bs) st .after .state)
+
+  stepped-ready : (st : Answer Step) → Good (views m) s bs h st → StepReady (views m) st → SteppedReady st
   unfolding stepped mediumAfter Good StepReady StateReady
   stepped-ready (refused n) G R = r
   stepped-ready (gives (Step.program p pg s′ finished)) G R = rw (program-views m p pg (there m s bs h U p pg s′ G) (G .fits-in)) R
   stepped-ready (gives (Step.erase b s′ finished)) G R = R (views (erased m b)) (erase-cut m s bs h U b s′ G)
 
   -- a step that is refused, or else is the one due
-  step-kept : (cs : List Need) → Good (views m) s bs h (under cs (erasedFirst (views m) s (due (views m) s (bufferedIn bs) (s .pending))))
-      → StateReady (views (stepped (world m (some s) bs) (under cs (erasedFirst (views m) s (due (views m) s (bufferedIn bs) (s .pending)))) .after .medium))
-      (stepped (world m (some s) bs) (under cs (erasedFirst (views m) s (due (views m) s (bufferedIn bs) (s .pending)))) .after .state)
+  abbrev own : Answer Step
+  own = erasedFirst (views m) s (due (views m) s (bufferedIn bs) (s .pending))
+
+  step-kept : (cs : List Need) → Good (views m) s bs h (under cs own) → SteppedReady (under cs own)
   step-kept cs =
-      checked-cases (λ (st : Answer Step). Good (views m) s bs h st → StateReady (views (stepped (world m (some s) bs) st .after .medium)) (stepped (world m (some s) bs) st .after .state)) cs
-      (erasedFirst (views m) s (due (views m) s (bufferedIn bs) (s .pending))) (λ n G. unfold stepped StateReady in r)
-      (λ e G. stepped-ready (erasedFirst (views m) s (due (views m) s (bufferedIn bs) (s .pending))) G (own-ready (views m) s h (U .coupled) r (bufferedIn bs)))
+      checked-cases (λ (st : Answer Step). Good (views m) s bs h st → SteppedReady st) cs own
+      (λ n G. unfold stepped StateReady in r) (λ e G. stepped-ready own G (own-ready (views m) s h (U .coupled) r (bufferedIn bs)))
 
 recover-ready : (m : List ℕ) (s : Option Held) (b : List ℕ) (h : History) → Upheld (world m s b) h
     → StateReady (views (recovered (world m s b) (Recovery.recover (length m) (views m)) .after .medium)) (recovered (world m s b) (Recovery.recover (length m) (views m)) .after .state)
@@ -223,7 +226,8 @@ event-ready m none b h (Event.append ks ws x y) U r = r
 event-ready m (some s) b h (Event.append ks ws x y) U r =
     unfold appendOf StateReady in call-ready m s b h U r (beganAppend (zip ks ws)) (appendNeeds (length m) (views m) s b ks ws)
     (starting s (append (zip ks ws) []))
-    (λ e. append-begun (length m) (views m) s b h (U .coupled) r ks ws (unfold tests in every-at 4 _ e) (unfold tests in every-at 6 _ e) (unfold tests in every-at 7 _ e))
+    (λ e. append-begun (length m) (views m) s b h (U .coupled) r ks ws
+    (unfold tests in every-at 4 _ e) (unfold tests in every-at 6 _ e) (unfold tests in every-at 7 _ e))
 event-ready m none b h Event.commit U r = r
 event-ready m (some s) b h Event.commit U r =
     unfold commitOf StateReady in call-ready m s b h U r beganCommit (commitNeeds (length m) (views m) s b) (starting s (commit 0)) (commit-begun (length m) (views m) s b h (U .coupled) r)
@@ -245,27 +249,32 @@ event-ready m s b h Event.cut U r = unfold StateReady in tt
 event-ready m s b h (Event.cutInside left c) U r = cut-ready (world m s b) left (stepDue (world m s b))
 
 -- and by one of the program before Paper 8
-earlier-ready : (m : List ℕ) (s : Option Held) (b : List ℕ) (h : History) (e : Earlier (world m s b)) → Upheld (world m s b) h → StateReady (views m) s
-    → StateReady (views (happened (world m s b) e .after .medium)) (happened (world m s b) e .after .state)
+earlier-ready : (m : List ℕ) (s : Option Held) (b : List ℕ) (h : History) (e : Earlier (world m s b)) → Upheld (world m s b) h
+    → StateReady (views m) s → StateReady (views (happened (world m s b) e .after .medium)) (happened (world m s b) e .after .state)
 unfolding happened withState stepDueBefore with11 tests
 earlier-ready m s b h (Earlier.same e) U r = event-ready m s b h e U r
 earlier-ready m none b h (Earlier.append ks ws x y) U r = r
 earlier-ready m (some s) b h (Earlier.append ks ws x y) U r =
-    unfold appendBefore StateReady in call-ready m s b h U r (beganAppend (zip ks ws)) (with11 (zip ks ws) (appendNeeds (length m) (views m) s b ks ws)) (starting s (append (zip ks ws) []))
+    unfold appendBefore StateReady in
+    call-ready m s b h U r (beganAppend (zip ks ws)) (with11 (zip ks ws) (appendNeeds (length m) (views m) s b ks ws)) (starting s (append (zip ks ws) []))
     (λ e. append-begun (length m) (views m) s b h (U .coupled) r ks ws (every-at 4 _ e) (every-at 6 _ e) (every-at 7 _ e))
 earlier-ready m none b h (Earlier.buffer ks ws x y) U r = r
 earlier-ready m (some s) b h (Earlier.buffer ks ws x y) U r =
-    unfold bufferBefore StateReady in buffer-ready m s b h U r (putIn (zip ks ws)) (with11 (zip ks ws) (bufferNeeds (length m) (views m) s b ks ws)) (holding (bufferedIn b ++ (zip ks ws ∷ [])))
+    unfold bufferBefore StateReady in
+    buffer-ready m s b h U r (putIn (zip ks ws)) (with11 (zip ks ws) (bufferNeeds (length m) (views m) s b ks ws)) (holding (bufferedIn b ++ (zip ks ws ∷ [])))
 earlier-ready m none b h Earlier.flush U r = r
 earlier-ready m (some s) b h Earlier.flush U r =
-    unfold flushBefore StateReady in call-ready m s b h U r beganFlush (with11 (changesOf (bufferedIn b)) (flushNeeds (length m) (views m) s b)) (starting s flush)
+    unfold flushBefore StateReady in
+    call-ready m s b h U r beganFlush (with11 (changesOf (bufferedIn b)) (flushNeeds (length m) (views m) s b)) (starting s flush)
     (λ e. flush-begun (length m) (views m) s b h (U .coupled) r (every-at 6 _ e))
 earlier-ready m none b h Earlier.step U r = unfold stepped in r
-earlier-ready m (some s) b h Earlier.step U r = unfold stepBefore StateReady in step-kept m s b h U r _ (unfold stepBefore in due-before m s b h U)
+earlier-ready m (some s) b h Earlier.step U r =
+    unfold stepBefore StateReady in step-kept m s b h U r _ (unfold stepBefore in due-before m s b h U)
 earlier-ready m s b h (Earlier.cutInside left c) U r = cut-ready (world m s b) left (stepDueBefore (world m s b))
 
 -- where formatting is finished
-finished-ready : (v : World) → Formatting v → finishes (stepDue v) ≡ true → StateReady (views (happen v Event.step .after .medium)) (happen v Event.step .after .state)
+finished-ready : (v : World) → Formatting v → finishes (stepDue v) ≡ true
+    → StateReady (views (happen v Event.step .after .medium)) (happen v Event.step .after .state)
 finished-ready v F e = starts-ready (lentAnew (happen v Event.step .after)) (starts (v .medium) (v .buffer) (v .state) (in-format v F) e)
 
 pub before-ready : (w : World) (h : History) → Before w h → StateReady (views (w .medium)) (w .state)

@@ -1,13 +1,13 @@
 -- The list of the program as it was before Paper 8 keeps the invariant: its events that differ from today's do.
 use mathlib.Core.Path.{_≡_, refl}
-use mathlib.Core.Bool.{Bool, true, not, _||_}
+use mathlib.Core.Bool.{true, not, _||_}
 use mathlib.Core.Option.{Option, none, some}
-use mathlib.Core.List.{List, [], _∷_, _++_}
+use mathlib.Core.List.{List, [], _∷_}
 use Prim.Native.Nat.{ℕ}
 use lib.Dec.{ltb, eqb}
 use lib.ListN.{length}
 use borrow.Author.Tests.{leb-true, ltb-true}
-use Rattle.lists.specs.Lists.{all, every}
+use Rattle.lists.specs.Lists.{all}
 use Rattle.lists.specs.Needs.{Answer, refused, need}
 use Rattle.lists.specs.Cells.{Entry}
 use Rattle.lists.proofs.Laws.{by-cases, every-at, tests, all-weaken, checked-cases}
@@ -15,14 +15,14 @@ use Rattle.page.specs.Pages.{View, pagesFor}
 use Rattle.page.specs.Rules.{entryOk}
 use Rattle.flash.specs.Medium.{views}
 use Rattle.blocks.specs.Blocks.{sizeOk}
-use Rattle.state.specs.State.{Pending, idle, append, commit, collect, format, flush, unnamed, Held, doneFit, pendingFit, isIdle, fitWith, bufferedIn}
+use Rattle.state.specs.State.{Pending, idle, append, commit, collect, format, flush, unnamed, Held, doneFit, isIdle, fitWith, bufferedIn}
 use Rattle.calls.specs.Calls.{starting, zip, appendNeeds, flushNeeds, bufferNeeds}
 use Rattle.step.specs.Step.{Step, due, erasedFirst}
 use Rattle.valve_log.specs.History.{History, tell}
 use Rattle.valve_log.specs.Reached.{World, world, withState, CutOf, stepped, stepDueBefore, Earlier, happened, Before}
 use Rattle.valve_log.specs.ValveZero.{entryAllowedBefore, allowedBefore, with11, appendBefore, bufferBefore, flushBefore, pendingBefore, fitBefore, stepBefore}
 use Rattle.valve_log.proofs.Small.{words-small}
-use Rattle.valve_log.proofs.Coupling.{Fits, fits, Let-in, Awaited, awaited}
+use Rattle.valve_log.proofs.Coupling.{Fits, fits, Awaited, awaited}
 use Rattle.valve_log.proofs.Lent.{lent-of, state-fit}
 use Rattle.valve_log.proofs.Due.{Good, refused-good, awaited-good}
 use Rattle.valve_log.proofs.Events.{Upheld, Follows, few-views, append-good, flush-good, buffer-good, step-goes, cut-goes, happen-good}
@@ -63,18 +63,18 @@ awaited-before v s gs unnamed f = tt
 fits-before : (v : List View) (s : Held) → Fits v (starting s idle) → Fits v s
 fits-before v s F = record { size = F .size; count = F .count; rise = F .rise; valve = F .valve; address = F .address; serial = F .serial }
 
--- the step is refused, or it is the one due: 1 was met, and the state was fit
-pub before-cases : (P : Answer Step → Type 0) (n : ℕ) (v : List View) (s : Held) (b : List ℕ) → ((k : ℕ) → P (refused k))
-    → (sizeOk n ≡ true → Fits v s → Awaited v s (s .pending) → P (erasedFirst v s (due v s (bufferedIn b) (s .pending)))) → P (stepBefore n v s b)
+-- the step is refused, or it is the one due, and the state was fit
+before-cases : (P : Answer Step → Type 0) (n : ℕ) (v : List View) (s : Held) (b : List ℕ) → ((k : ℕ) → P (refused k))
+    → (Fits v s → Awaited v s (s .pending) → P (erasedFirst v s (due v s (bufferedIn b) (s .pending)))) → P (stepBefore n v s b)
 unfolding stepBefore
 before-cases P n v s b r g =
-    checked-cases P (need 1 (sizeOk n) ∷ need 7 (fitBefore v s b) ∷ need 9 (not (isIdle (s .pending))) ∷ []) (erasedFirst v s (due v s (bufferedIn b) (s .pending))) r
-    (λ e. given (unfold tests in every-at 0 _ e) (unfold tests in every-at 1 _ e))
+    checked-cases P (need 1 (sizeOk n) ∷ need 7 (fitBefore v s b) ∷ need 9 (not (isIdle (s .pending))) ∷ [])
+    (erasedFirst v s (due v s (bufferedIn b) (s .pending))) r (λ e. given (unfold tests in every-at 1 _ e))
   where
-    given : sizeOk n ≡ true → fitBefore v s b ≡ true → P (erasedFirst v s (due v s (bufferedIn b) (s .pending)))
-    given size f =
+    given : fitBefore v s b ≡ true → P (erasedFirst v s (due v s (bufferedIn b) (s .pending)))
+    given f =
         let rest : fitWith v (starting s idle) b ≡ true = unfold fitBefore in every-at 0 _ f in
-        g size (fits-before v s (fits v (starting s idle) (state-fit v (starting s idle) b rest)))
+        g (fits-before v s (fits v (starting s idle) (state-fit v (starting s idle) b rest)))
         (awaited-before v s (bufferedIn b) (s .pending) (unfold fitBefore in every-at 1 _ f))
 
 -- ---- any such event
@@ -83,7 +83,7 @@ module _ (m : List ℕ) (s : Held) (b : List ℕ) (h : History) (U : Upheld (wor
   pub due-before : Good (views m) s b h (stepBefore (length m) (views m) s b)
   due-before =
       before-cases (Good (views m) s b h) (length m) (views m) s b (refused-good (views m) s b h)
-      (λ size F A. awaited-good (views m) s b h (words-small m (U .guarded .bytes)) (few-views m (U .size)) (U .coupled) (lent-of (U .lending)) F A)
+      (awaited-good (views m) s b h (words-small m (U .guarded .bytes)) (few-views m (U .size)) (U .coupled) (lent-of (U .lending)))
 
 happened-good : (m : List ℕ) (s : Option Held) (b : List ℕ) (h : History) (e : Earlier (world m s b)) → Upheld (world m s b) h → Follows h (happened (world m s b) e)
 unfolding happened withState stepDueBefore appendBefore bufferBefore flushBefore with11 tests

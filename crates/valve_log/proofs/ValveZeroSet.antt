@@ -1,16 +1,16 @@
 -- A list of the program as it was before Paper 8 that sets valve 0: formatting, the append of one entry, and its step.
-use mathlib.Core.Path.{_≡_, refl, sym, ap, subst, _∙_}
+use mathlib.Core.Path.{_≡_, refl, ap, subst, _∙_}
 use mathlib.Core.Bool.{Bool, true}
 use mathlib.Core.Option.{Option, some}
 use mathlib.Core.List.{List, [], _∷_}
-use Prim.Native.Nat.{ℕ, zero, suc, _/_, _^_, _≤_, _<_}
+use Prim.Native.Nat.{ℕ, zero, suc, _/_, _^_, _<_}
 use native.Mathlib.Omega.{arith}
 use lib.ListN.{length, getD, replicate, length-replicate}
-use Rattle.lists.specs.Lists.{all, every, valueOr, allBelow, oneIf, countBelow, Below, Bytes}
-use Rattle.lists.specs.Needs.{Answer, gives, under}
+use Rattle.lists.specs.Lists.{all, every, valueOr, allBelow, oneIf, countBelow, Below}
+use Rattle.lists.specs.Needs.{gives, under}
 use Rattle.lists.specs.Cells.{cell, Entry}
 use Rattle.codec.specs.Codec.{blank, allOnes}
-use Rattle.page.specs.Pages.{Page, View, clean, whole, isClean, pagesFor}
+use Rattle.page.specs.Pages.{View, clean, whole, isClean, pagesFor}
 use Rattle.page.specs.Layout.{cleanBytes}
 use Rattle.page.specs.Buffer.{gathered}
 use Rattle.flash.specs.Medium.{views, seen, whollyClean, programmed}
@@ -21,7 +21,7 @@ use Rattle.state.specs.State.{Held, append, headFit, indexFit, doneFit, pending
 use Rattle.calls.specs.Calls.{starting, zip, listsOk, roomFor, serialsFor, holdsNone}
 use Rattle.step.specs.Step.{Step, isLast, groupPage, appended, programming, appendStep, due, programsDue, needsErase, erasedFirst, mediumAfter, bufferAfter}
 use Rattle.valve_log.specs.History.{nothing, history, start as noHistory, beganAppend, steppedPage, counted, tell}
-use Rattle.valve_log.specs.Reached.{World, world, fresh, lentAnew, withState, Event, Moment, moment, called, stepped, happen, Formatting, stepDueBefore, Earlier, happened, Before, Reached}
+use Rattle.valve_log.specs.Reached.{World, world, fresh, lentAnew, withState, Event, Moment, moment, called, stepped, happen, Formatting, stepDueBefore, Earlier, happened, Before}
 use Rattle.valve_log.specs.ValveZero.{entryAllowedBefore, allowedBefore, with11, appendBefore, pendingBefore, fitBefore, stepBefore}
 use Rattle.valve_log.specs.Finished.{HoldsValveZero, ValveZeroReached}
 use Rattle.valve_log.proofs.Formats.{Begins, basePage, started, in-format, starts}
@@ -42,15 +42,17 @@ module _ (word : ℕ) (e : List Bool) where
 
   begins : appendBefore 16384 four (started 4 e) fresh (0 ∷ []) (word ∷ []) ≡ gives begun
   unfolding
-      appendBefore with11 under every all valueOr allBelow oneIf countBelow blank allOnes isClean pagesFor cleanBytes gathered seen whollyClean put assign risingFrom rising within
-      sizeOk spare available headFit indexFit pendingFit fit isIdle groupsFit bufferFit fitWith bufferedIn zip listsOk roomFor serialsFor holdsNone entryAllowedBefore allowedBefore
+      appendBefore with11 under every all valueOr allBelow oneIf countBelow blank allOnes isClean pagesFor cleanBytes gathered seen whollyClean
+      put assign risingFrom rising within sizeOk spare available headFit indexFit pendingFit fit isIdle groupsFit bufferFit fitWith bufferedIn
+      zip listsOk roomFor serialsFor holdsNone entryAllowedBefore allowedBefore
   begins = refl
 
-  steps : stepBefore 16384 four begun fresh ≡ gives (Step.program 1 (groupPage 1 (zeroTo word) 0 2) (appended begun (zeroTo word) [] 1) true)
+  steps : stepBefore 16384 four begun fresh
+      ≡ gives (Step.program 1 (groupPage 1 (zeroTo word) 0 2) (appended begun (zeroTo word) [] 1) true)
   unfolding
-      stepBefore fitBefore pendingBefore under every all valueOr allBelow oneIf countBelow blank allOnes isClean pagesFor cleanBytes gathered seen whollyClean put assign risingFrom rising within
-      sizeOk pageDue headFit indexFit doneFit pendingFit fit isIdle groupsFit bufferFit fitWith bufferedIn serialsFor entryAllowedBefore allowedBefore
-      isLast programming appendStep due programsDue needsErase erasedFirst
+      stepBefore fitBefore pendingBefore under every all valueOr allBelow blank allOnes isClean pagesFor cleanBytes gathered seen
+      put assign risingFrom rising within sizeOk pageDue headFit indexFit doneFit pendingFit fit isIdle groupsFit bufferFit fitWith bufferedIn
+      serialsFor entryAllowedBefore allowedBefore isLast programming appendStep due programsDue needsErase erasedFirst
   steps = refl
 
 -- ---- the list
@@ -69,7 +71,8 @@ module _ (m : List ℕ) (e : List Bool) (word : ℕ) (small : word < 2 ^ 64) (lo
   first = world m (some (started 4 e)) fresh
 
   appending : Earlier first
-  appending = Earlier.append (0 ∷ []) (word ∷ []) (one-below (2 ^ 16) 0 (omega arith) (omega arith)) (one-below (2 ^ 64) word (omega arith) small)
+  appending =
+      Earlier.append (0 ∷ []) (word ∷ []) (one-below (2 ^ 16) 0 (omega arith) (omega arith)) (one-below (2 ^ 64) word (omega arith) small)
 
   appended-is : happened first appending ≡ moment m (some (begun word e)) fresh (beganAppend (zeroTo word))
   unfolding appending happened withState called zip
@@ -91,7 +94,7 @@ module _ (m : List ℕ) (e : List Bool) (word : ℕ) (small : word < 2 ^ 64) (lo
       subst (λ (t : Moment). Before (t .after) (tell noHistory (t .told))) appended-is (Before.next first noHistory appending b) in
       let b₂ = subst (λ (t : Moment). Before (t .after) (tell (tell noHistory (beganAppend (zeroTo word))) (t .told))) stepped-is
       (Before.next (world m (some (begun word e)) fresh) (tell noHistory (beganAppend (zeroTo word))) Earlier.step b₁) in
-      record { world = _; reached = subst (Reached _) told-is (Reached.takenOver b₂) }
+      record { world = _; before = subst (Before _) told-is b₂ }
 
 size-of : (n : ℕ) → n ≡ 16384 → sizeOk n ≡ true
 unfolding sizeOk every
@@ -99,28 +102,34 @@ size-of n e = rw e
 
 pub valve-zero-reached : ValveZeroReached
 unfolding ValveZeroReached
-valve-zero-reached m bytes long word small = holds-zero (w .medium) (B .erased) word small same sees (subst (λ (o : Option Held). Before (world (w .medium) o fresh) noHistory) state formatted)
+valve-zero-reached m bytes long word small =
+    holds-zero (w .medium) (B .erased) word small same sees (subst (λ (o : Option Held). Before (world (w .medium) o fresh) noHistory) state formatted)
   where
     size : sizeOk (length m) ≡ true
     size = size-of (length m) long
 
-    w : World
-    w = happen (erasedAll m bytes size) Event.step .after
+    last : World
+    last = erasedAll m bytes size
 
-    F : Formatting (erasedAll m bytes size)
+    w : World
+    w = happen last Event.step .after
+
+    F : Formatting last
     F = all-under-way m bytes size
 
     formatted : Before (lentAnew w) noHistory
-    formatted = Before.start (erasedAll m bytes size) F (over m bytes size)
+    formatted = Before.start last F (over m bytes size)
 
     B : Begins (lentAnew w)
-    B = starts (erasedAll m bytes size .medium) (erasedAll m bytes size .buffer) (erasedAll m bytes size .state) (in-format (erasedAll m bytes size) F) (over m bytes size)
+    B = starts (last .medium) (last .buffer) (last .state) (in-format last F) (over m bytes size)
 
     same : length (w .medium) ≡ 16384
     same = over-length m bytes size ∙ long
 
     pages : B .pages ≡ 63
-    pages = let n : length (views (w .medium)) ≡ suc (B .pages) = ap length (B .sees) ∙ ap suc (length-replicate {A = View} (B .pages) clean) in omega (arith, length-views (w .medium), same)
+    pages =
+        let n : length (views (w .medium)) ≡ suc (B .pages) = ap length (B .sees) ∙ ap suc (length-replicate {A = View} (B .pages) clean) in
+        omega (arith, length-views (w .medium), same)
 
     sees : views (w .medium) ≡ four
     sees = B .sees ∙ ap (λ (k : ℕ). whole basePage ∷ replicate k clean) pages

@@ -13,7 +13,7 @@ use Rattle.blocks.specs.Blocks.{sizeOk}
 use Rattle.state.specs.State.{Held}
 use Rattle.calls.specs.Calls.{formatOf}
 use Rattle.valve_log.specs.History.{nothing, history, start as noHistory}
-use Rattle.valve_log.specs.Reached.{World, world, fresh, lentAnew, stepDue, Event, happen, finishes, Reached}
+use Rattle.valve_log.specs.Reached.{World, world, fresh, lentAnew, stepDue, Event, happen, finishes, Before, Reached}
 
 -- the world after n steps
 unfoldable pub stepsOn : ℕ → World → World
@@ -34,11 +34,11 @@ pub record Finished (m : List ℕ) : Type 0 where
 unfoldable pub FormattingFinishes : Type 0
 FormattingFinishes = (m : List ℕ) → Bytes m → sizeOk (length m) ≡ true → Finished m
 
--- A list leads to a medium that the program as it was before Paper 8 left, whose log has one group, which set valve 0 to this word: nothing
--- else is set, and nothing is under way or buffered.
+-- A list of the program as it was before Paper 8 leads to a log of one group, which set valve 0 to this word: nothing else is set, and nothing
+-- is under way or buffered. The list of point 3, and a run of the code, start on what it left (`takenOver`).
 pub record HoldsValveZero (word : ℕ) : Type 0 where
   pub world : World
-  pub reached : Reached world (history (cell 0 word ∷ []) ((cell 0 word ∷ []) ∷ []) nothing [])
+  pub before : Before world (history (cell 0 word ∷ []) ((cell 0 word ∷ []) ∷ []) nothing [])
 
 -- "Media that hold it": each word, on each medium of four blocks
 unfoldable pub ValveZeroReached : Type 0
