@@ -31,10 +31,10 @@ use Rattle.dispatcher.proofs.Named.{named-begins}
 use Rattle.valve_log.specs.History.{History}
 use Rattle.valve_log.specs.Reached.{World, world, withState, Event, stepDue, happen, finishes, Reached, Point3}
 use Rattle.valve_log.proofs.Point3.{point3}
-use Rattle.housekeeping.specs.Bound.{isUnfinished, Finishes, namedIn, appendIn, Leads, here, commits, collects, Admits, commitsIn, collectionsIn, EndsWith, Bounded, Meets13, Bound, Sharper, Sixteen}
-use Rattle.housekeeping.proofs.Bound.{bound, sharper, sixteen}
+use Rattle.housekeeping.specs.Bound.{isUnfinished, Finishes, namedIn, appendIn, Leads, here, commits, collects, Admits, commitsIn, collectionsIn, EndsWith, Bounded, Meets13, Bound, Sharper, ByPages, Sixteen}
+use Rattle.housekeeping.proofs.Bound.{bound, sharper, by-pages, sixteen}
 use Rattle.journal.specs.Run.{Machine, machine, meant, worldOf, Moves, Run, saysFinished, finishedBy}
-use Rattle.journal.specs.Housekeeping.{asking, stepping, inLog, Stage, LetsIn, Answers13, LetsInBy, BoundOfCode, SharperOfCode, SixteenOfCode}
+use Rattle.journal.specs.Housekeeping.{asking, stepping, inLog, Stage, LetsIn, Answers13, LetsInBy, BoundOfCode, SharperOfCode, ByPagesOfCode, SixteenOfCode}
 use Rattle.journal.proofs.Chain.{moves, runs, answers-finished}
 
 -- ---- what the answers of the calls say
@@ -192,6 +192,10 @@ bound-of-code x h s ks ws M S = lets-in-by x s (M .state) (bound (worldOf x) h (
 pub sharper-of-code : SharperOfCode
 unfolding SharperOfCode Sharper
 sharper-of-code x h s ks ws M S = lets-in-by x s (M .state) (sharper (worldOf x) h (meaning s) ks ws (meets x h s ks ws M) S)
+
+pub by-pages-of-code : ByPagesOfCode
+unfolding ByPagesOfCode ByPages
+by-pages-of-code x h s ks ws M k = by-pages (worldOf x) h (meaning s) ks ws (meets x h s ks ws M) k
 
 pub sixteen-of-code : SixteenOfCode
 unfolding SixteenOfCode Sixteen
