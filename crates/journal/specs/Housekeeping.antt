@@ -53,7 +53,7 @@ pub data LetsIn (ks ws : List ℕ) : ℕ → ℕ → Stage → Machine → Type 
       → ((r : Stepped) (m′ b′ : List ℕ) → Steps m s b r m′ b′ → LetsIn ks ws i j (stepping then) (machine m′ (some (r .state)) b′)) → LetsIn ks ws i j (stepping then) (machine m (some s) b)
   last : {i j : ℕ} {then : Stage} (m : List ℕ) (s : State) (b : List ℕ) → ((r : Stepped) (m′ b′ : List ℕ) → Steps m s b r m′ b′ → (r .number ≡ 0) × (r .finished ≡ true))
       → ((r : Stepped) (m′ b′ : List ℕ) → Steps m s b r m′ b′ → LetsIn ks ws i j then (machine m′ (some (r .state)) b′)) → LetsIn ks ws i j (stepping then) (machine m (some s) b)
-  appended : (x : Machine) → ((h : History) → Run x h → EndsWith (zip ks ws) (h .log)) → LetsIn ks ws 0 0 inLog x
+  appended : (x : Machine) (h : History) → Run x h → EndsWith (zip ks ws) (h .log) → LetsIn ks ws 0 0 inLog x
 
 -- Along a program's run, with the state last handed back and an empty buffer: "an append met 13 with at least 16 pages available", as the answers of
 -- `append` and `available` say, "no operation is pending". Keys have 16 bits and words 64.
