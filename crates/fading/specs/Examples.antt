@@ -2,16 +2,13 @@
 -- refuses with.
 use mathlib.Core.Path.{_≡_}
 use mathlib.Core.List.{List, [], _∷_, _++_}
-use Prim.Native.Nat.{ℕ, _+_, _-_, _*_, _≤_}
-use lib.ListN.{length, take, set, replicate}
-use Rattle.lists.specs.Lists.{Bytes}
+use Prim.Native.Nat.{ℕ, _+_, _-_, _*_}
+use lib.ListN.{take, set, replicate}
 use Rattle.lists.specs.Needs.{Answer, refused, gives, andThen}
 use Rattle.lists.specs.Cells.{cell, Entry, Setting}
-use Rattle.page.specs.Pages.{View, clean, spoilt, whole, page}
-use Rattle.page.specs.Layout.{encode, viewOf}
+use Rattle.page.specs.Pages.{View, clean, whole, page}
 use Rattle.page.specs.Buffer.{groupsPage}
-use Rattle.codec.specs.Codec.{putAt}
-use Rattle.flash.specs.Medium.{pageAt, views, seen}
+use Rattle.flash.specs.Medium.{views}
 use Rattle.nodes.specs.Nodes.{words}
 use Rattle.recovery.specs.Recovery.{recover as recoverOf}
 use Rattle.fading.specs.Fading.{Faded}
@@ -47,28 +44,13 @@ pagesWritten =
 abbrev pub written : ℕ → List View
 written n = take n pagesWritten ++ replicate (64 - n) clean
 
--- the bytes of a page that is whole
-abbrev pub bytesOfPage : View → List ℕ
-bytesOfPage clean = []
-bytesOfPage spoilt = []
-bytesOfPage (whole pg) = encode pg
-
--- the bytes of page p, of which byte i is then x
-abbrev pub bytesWith : ℕ → ℕ → ℕ → List View → List ℕ
-bytesWith p i x v = set (bytesOfPage (seen v p)) i x
-
--- byte i of page p fades to x, some of its bits turned to 1 and nothing else altered; and of these pages recovery then gives this
+-- A medium of these pages, on which byte i of page p then fades to x, some of its bits turned to 1 and nothing else altered; and what recovery gives of
+-- the faded medium.
 pub record FadedGives (p i x : ℕ) (v : List View) (answer : Answer LogAndSettings) : Type 0 where
-  pub faded : Faded (bytesOfPage (seen v p)) (bytesWith p i x v)
-  pub shows : shownOf (set v p (viewOf (bytesWith p i x v))) ≡ answer
-
--- What has faded on a page has faded on the medium, whose pages are then as above: page p of m has faded, and its bytes are then s.
-pub record FadedThere (m : List ℕ) (p : ℕ) (s : List ℕ) : Type 0 where
-  pub faded : Faded m (putAt m (256 * p) s)
-  pub pages : views (putAt m (256 * p) s) ≡ set (views m) p (viewOf s)
-
-unfoldable pub PageFades : Type 0
-PageFades = (m : List ℕ) (p : ℕ) (s : List ℕ) → Bytes m → 256 * p + 256 ≤ length m → Faded (pageAt m p) s → FadedThere m p s
+  pub medium : List ℕ
+  pub pages : views medium ≡ v
+  pub faded : Faded medium (set medium (256 * p + i) x)
+  pub shows : shownOf (views (set medium (256 * p + i) x)) ≡ answer
 
 -- ---- the table
 

@@ -33,11 +33,11 @@ use Rattle.valve_log.proofs.Supply.{Witness, count-witness, spare-is}
 use Rattle.valve_log.proofs.Ready.{sound-part, no-room}
 use Rattle.valve_log.proofs.Events.{no-groups}
 use Rattle.dispatcher.specs.Dispatch.{greatestSerial, endsBase, newer, Next, naming, collection, roomMaker, answers13, nextOf}
-use Rattle.housekeeping.specs.Bound.{Finishes, namedIn, appendIn, Leads, here, commits, collects, commitsIn, collectionsIn, Bounded, Suffice, Meets13, Bound, Sharper, Sixteen, SmallGroups}
+use Rattle.housekeeping.specs.Bound.{Finishes, namedIn, appendIn, Leads, here, commits, collects, commitsIn, collectionsIn, Bounded, Suffice, Meets13, Bound, Sharper, Needed, pagesBefore, ByPages, Sixteen, SmallGroups}
 use Rattle.housekeeping.proofs.Counting.{count-two, Two, two, One, one, live-two, live-few}
 use Rattle.housekeeping.proofs.Picking.{Named, names}
 use Rattle.housekeeping.proofs.Places.{InTwo}
-use Rattle.housekeeping.proofs.Only.{none-stops}
+use Rattle.housekeeping.proofs.Only.{needed}
 use Rattle.housekeeping.proofs.Runs.{Known, known, alives, fits-fresh, bound as serials-bound, four, index-few}
 use Rattle.housekeeping.proofs.Runs.{index-sound, serials-known, Frame, CommitDone, commit-runs, append-runs, CollectDone, collect-runs}
 
@@ -339,10 +339,10 @@ serials-false h n e = leb-false (h .serial + n) (2 ^ 64 - 1) e
 
 module _ (ks ws : List ℕ) (narrow : Below (2 ^ 16) ks) (small : Below (2 ^ 64) ws) (t : ℕ) where
   admit-now : {m : List ℕ} {s : Held} {h : History} (K : Known m s h) → s .pending ≡ idle → Offer s ks ws → pagesFor (length ks) + 16 ≤ available (views m) (s .head)
-      → s .head .serial + 4 ≤ t → Comes ks ws t 0 0 (world m (some s) fresh)
+      → s .head .serial + pagesFor (length ks) ≤ t → Comes ks ws t 0 0 (world m (some s) fresh)
   admit-now {m} {s} {h} K e o room serials =
       by-cases (serialsFor (s .head) (pagesFor (length ks))) (λ q. inl (goes q))
-      (λ q. stops (world m (some s) fresh) (next-append-14 m s ks ws (append-short K e ks ws o has-room q)) (omega (arith, serials-false (s .head) (pagesFor (length ks)) q, few-pages ks ws (o .lists))))
+      (λ q. stops (world m (some s) fresh) (next-append-14 m s ks ws (append-short K e ks ws o has-room q)) (omega (arith, serials-false (s .head) (pagesFor (length ks)) q)))
     where
       has-room : roomFor (views m) (s .head) (pagesFor (length ks) + 16) ≡ true
       has-room = unfold roomFor in le-leb (pagesFor (length ks) + 16) (available (views m) (s .head)) room
@@ -380,7 +380,7 @@ module _ (ks ws : List ℕ) (narrow : Below (2 ^ 16) ks) (small : Below (2 ^ 64)
   -- one collection suffices
   collect-once : {m : List ℕ} {s : Held} {h : History} (K : Known m s h) → s .pending ≡ idle → Offer s ks ws → appendOf (length m) (views m) s fresh ks ws ≡ refused 13 → newer (views m) ≡ false
       → (b j : ℕ) → pickBelow (views m) (s .head) (s .index) (s .head .blocks) ≡ some b → collectible (views m) (s .head) b ≡ true
-      → pagesFor (length (live (s .index) b)) ≤ j → j ≤ available (views m) (s .head) → pagesFor (length ks) + j ≤ available (views m) (s .head) → s .head .serial + (j + 4) ≤ t
+      → pagesFor (length (live (s .index) b)) ≤ j → j ≤ available (views m) (s .head) → pagesFor (length ks) + j ≤ available (views m) (s .head) → s .head .serial + (j + pagesFor (length ks)) ≤ t
       → Comes ks ws t 0 1 (world m (some s) fresh)
   collect-once {m} {s} {h} K e o full13 settled b j picks fit few room gains serials =
       by-cases (serialsFor (s .head) (pagesFor (length (live (s .index) b)))) (λ q. goes q)
@@ -481,12 +481,12 @@ base-last v e = go (seen v (s .at)) refl (not-false (endsBase (greatestSerial v)
 
 module _ {m : List ℕ} {s : Held} {h : History} (K : Known m s h) (rests : s .pending ≡ idle) (ks ws : List ℕ) (narrow : Below (2 ^ 16) ks) (small : Below (2 ^ 64) ws)
     (full13 : appendOf (length m) (views m) s fresh ks ws ≡ refused 13) (many : 16 ≤ available (views m) (s .head)) where
-  -- more serials than any way takes
-  abbrev t : ℕ
-  t = s .head .serial + 16
-
   abbrev v : List View
   v = views m
+
+  -- the next serial after all pages that the way takes
+  abbrev t : ℕ
+  t = s .head .serial + (pagesBefore v s + pagesFor (length ks))
 
   fulls : Full v s ks ws
   fulls = full-of (length m) v s fresh ks ws full13
@@ -522,7 +522,8 @@ module _ {m : List ℕ} {s : Held} {h : History} (K : Known m s h) (rests : s .p
   settled e =
       let B = N .best-of in
       let p : pagesFor (length (live (s .index) (N .block))) ≤ 8 = pages-most (length (live (s .index) (N .block))) 8 (omega (arith, live-few (N .block) (s .index), index-few K)) in
-      collect-once ks ws narrow small t K rests (fulls .offer) full13 e (N .block) 8 (N .is) (B .fits) p (omega arith) (omega (arith, few)) (omega arith)
+      let a : pagesBefore v s ≡ 8 = unfold pagesBefore in rw e in
+      collect-once ks ws narrow small t K rests (fulls .offer) full13 e (N .block) 8 (N .is) (B .fits) p (omega arith) (omega (arith, few)) (omega (arith, a))
     where
       L : BaseLast v
       L = base-last v e
@@ -558,7 +559,7 @@ module _ {m : List ℕ} {s : Held} {h : History} (K : Known m s h) (rests : s .p
           (collectible-is v (s .head) (free .x) inside (used (free .x) inside (free .xa) (free .xb)) (free .xa) (old-is v (s .head .base) (free .x) no-base-page))
 
   -- after a commit: at once, or one collection
-  module _ (c : ℕ) (D : CommitDone m (starting s (commit 0)) c (s .head .serial) (s .head .block) (spare-one .at)) (most : c ≤ 8) where
+  module _ (c : ℕ) (D : CommitDone m (starting s (commit 0)) c (s .head .serial) (s .head .block) (spare-one .at)) (most : c ≤ 8) (counted : c + 4 ≤ pagesBefore v s) where
     offer₁ : Offer (D .s′) ks ws
     offer₁ = record { lists = fulls .offer .lists; allowed = fulls .offer .allowed; withins = ap (λ (l : List Place). within l (zip ks ws)) (D .indices) ∙ fulls .offer .withins }
 
@@ -596,6 +597,9 @@ module _ {m : List ℕ} {s : Held} {h : History} (K : Known m s h) (rests : s .p
   few-base-pages : suc (basePages (length (s .index)) - 1) ≤ 8
   few-base-pages = omega (arith, base .0, base .1)
 
+  base-first : newer v ≡ true → pagesBefore v s ≡ basePages (length (s .index)) + 4
+  base-first e = unfold pagesBefore in rw e
+
   -- a page is newer than the base: a commit first
   module _ (e : newer v ≡ true) (q : serialsFor (s .head) (basePages (length (s .index))) ≡ true) where
     c : commitOf (length m) v s fresh ≡ gives (starting s (commit 0))
@@ -619,19 +623,26 @@ module _ {m : List ℕ} {s : Held} {h : History} (K : Known m s h) (rests : s .p
     after-commit : Comes ks ws t 1 1 (world m (some s) fresh)
     after-commit =
         by-cases (roomFor (views (D₁ .m′)) (D₁ .s′ .head) (pagesFor (length ks) + 16))
-        (λ r. first 0 (omega arith) (then-in (suc (basePages (length (s .index)) - 1)) D₁ few-base-pages r))
-        (λ r. first 1 (omega arith) (then-collect (suc (basePages (length (s .index)) - 1)) D₁ few-base-pages r))
+        (λ r. first 0 (omega arith) (then-in (suc (basePages (length (s .index)) - 1)) D₁ few-base-pages counted-base r))
+        (λ r. first 1 (omega arith) (then-collect (suc (basePages (length (s .index)) - 1)) D₁ few-base-pages counted-base r))
+      where
+        counted-base : suc (basePages (length (s .index)) - 1) + 4 ≤ pagesBefore v s
+        counted-base = omega (arith, base .0, base-first e)
 
   unsettled : newer v ≡ true → Comes ks ws t 1 1 (world m (some s) fresh)
   unsettled e =
       by-cases (serialsFor (s .head) (basePages (length (s .index)))) (λ q. after-commit e q)
-      (λ q. stops (world m (some s) fresh) (next-commit-14 m s ks ws full13 e (commit-short K rests ks ws (omega (arith, base .1)) q)) (omega (arith, base .1, serials-false (s .head) (basePages (length (s .index))) q)))
+      (λ q. stops (world m (some s) fresh) (next-commit-14 m s ks ws full13 e (commit-short K rests ks ws (omega (arith, base .1)) q)) (omega (arith, base-first e, serials-false (s .head) (basePages (length (s .index))) q)))
 
   comes : Comes ks ws t 1 1 (world m (some s) fresh)
   comes = by-cases (newer v) (λ e. unsettled e) (λ e. comes-wider (settled e) (omega arith) (omega arith))
 
--- the group is let in, or serials run out, which they do only where there are not 16
-let-in-or-14 : (w : World) (h : History) (s : Held) (ks ws : List ℕ) → Meets13 w h s ks ws → Comes ks ws (s .head .serial + 16) 1 1 w
+-- the next serial after all pages that the way takes
+abbrev serialAfter : World → Held → List ℕ → ℕ
+serialAfter w s ks = s .head .serial + (pagesBefore (views (w .medium)) s + pagesFor (length ks))
+
+-- the group is let in, or serials run out, which they do only where there is not one for each page
+let-in-or-14 : (w : World) (h : History) (s : Held) (ks ws : List ℕ) → Meets13 w h s ks ws → Comes ks ws (serialAfter w s ks) 1 1 w
 let-in-or-14 w h s ks ws M =
     let q : w ≡ world (w .medium) (some s) fresh = rw (M .state, M .empty) in
     rw q (comes (known (w .medium) s h (rw q at (M .reached))) (M .rests) ks ws (M .narrow) (M .small) (rw (M .empty) at (M .met13)) (M .pages))
@@ -640,7 +651,7 @@ pub sharper : Sharper
 unfolding Sharper Suffice
 sharper w h s ks ws M S = go (let-in-or-14 w h s ks ws M)
   where
-    go : Comes ks ws (s .head .serial + 16) 1 1 w → Bounded ks ws 1 1 w
+    go : Comes ks ws (serialAfter w s ks) 1 1 w → Bounded ks ws 1 1 w
     go (inl B) = B
     go (inr X) = absurd (S (X .operations) (X .end) (X .leads) (X .named))
 
@@ -648,10 +659,22 @@ pub bound : Bound
 unfolding Bound Sharper
 bound w h s ks ws M S = wider (sharper w h s ks ws M S) (omega arith) (omega arith)
 
-pub sixteen : Sixteen
-unfolding Sixteen
-sixteen w h s ks ws M k = go (let-in-or-14 w h s ks ws M)
+pub by-pages : ByPages
+unfolding ByPages Needed
+by-pages w h s ks ws M k = go (let-in-or-14 w h s ks ws M)
   where
-    go : Comes ks ws (s .head .serial + 16) 1 1 w → Suffice ks ws w
-    go (inl B) = none-stops (B .admits)
+    go : Comes ks ws (serialAfter w s ks) 1 1 w → Suffice ks ws w
+    go (inl B) = needed ks ws (B .operations) w (B .end) (B .admits)
     go (inr X) = absurd (omega (arith, X .short))
+
+-- at most 12 pages before the group's
+few-before : (v : List View) (s : Held) → length (s .index) ≤ 192 → pagesBefore v s ≤ 12
+unfolding pagesBefore
+few-before v s l = by-cases (newer v) (λ e. rw e (omega (arith, base-some (length (s .index)) l .1))) (λ e. rw e (omega arith))
+
+pub sixteen : Sixteen
+unfolding Sixteen ByPages
+sixteen w h s ks ws M k = by-pages w h s ks ws M (omega (arith, few-before (views (w .medium)) s valves, few-pages ks ws (full-of (length (w .medium)) (views (w .medium)) s (w .buffer) ks ws (M .met13) .offer .lists)))
+  where
+    valves : length (s .index) ≤ 192
+    valves = index-few (known (w .medium) s h (let q : w ≡ world (w .medium) (some s) fresh = rw (M .state, M .empty) in rw q at (M .reached)))

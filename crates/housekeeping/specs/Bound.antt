@@ -1,6 +1,6 @@
 -- How few operations the dispatcher names, where an append met 13, until that same group is let in.
 use mathlib.Core.Path.{_≡_}
-use mathlib.Core.Bool.{Bool, true, false, not}
+use mathlib.Core.Bool.{Bool, true, false, not, cond}
 use mathlib.Core.Option.{some}
 use mathlib.Core.List.{List, [], _∷_, _++_}
 use Prim.Native.Nat.{ℕ, suc, _+_, _-_, _^_, _≤_}
@@ -8,13 +8,13 @@ use lib.ListN.{length}
 use Rattle.lists.specs.Lists.{Below}
 use Rattle.lists.specs.Needs.{Answer, refused, gives}
 use Rattle.lists.specs.Cells.{Entry}
-use Rattle.page.specs.Pages.{View}
+use Rattle.page.specs.Pages.{View, pagesFor}
 use Rattle.flash.specs.Medium.{views}
 use Rattle.blocks.specs.Blocks.{sizeOk, available}
-use Rattle.state.specs.State.{idle, Held}
+use Rattle.state.specs.State.{idle, Held, basePages}
 use Rattle.calls.specs.Calls.{zip, holdsNone, appendOf, bufferOf}
 use Rattle.step.specs.Step.{Step}
-use Rattle.dispatcher.specs.Dispatch.{Next, nextOf}
+use Rattle.dispatcher.specs.Dispatch.{newer, Next, nextOf}
 use Rattle.valve_log.specs.History.{History}
 use Rattle.valve_log.specs.Reached.{World, world, fresh, withState, Event, stepDue, happen, finishes, Reached}
 
@@ -79,7 +79,8 @@ pub record EndsWith (group : List Entry) (log : List (List Entry)) : Type 0 wher
   pub before : List (List Entry)
   pub is : log ≡ before ++ (group ∷ [])
 
--- At most so many commits and so many collections let the group in: the log of the plain history then ends with that very group.
+-- At most so many commits and so many collections let the group in: the log of the plain history then ends with that very group. By point 3 every
+-- history that leads to that world has this log.
 pub record Bounded (ks ws : List ℕ) (most-commits most-collections : ℕ) (w : World) : Type 0 where
   pub operations : List Next
   pub end : World
@@ -115,8 +116,21 @@ Bound = (w : World) (h : History) (s : Held) (ks ws : List ℕ) → Meets13 w h 
 unfoldable pub Sharper : Type 0
 Sharper = (w : World) (h : History) (s : Held) (ks ws : List ℕ) → Meets13 w h s ks ws → Suffice ks ws w → Bounded ks ws 1 1 w
 
--- 16 serials suffice: where a commit is named, its base takes at most 8, the moved nodes 4 and the group 4; where none is, the moved nodes take at
--- most 8 and the group 4
+-- The premise on serials is the weakest: where the group is let in, by whatever operations, serials suffice.
+unfoldable pub Needed : Type 0
+Needed = (ks ws : List ℕ) (ops : List Next) (w end : World) → Admits ks ws ops w end → Suffice ks ws w
+
+-- the pages that the way takes at most before the group's own: where a commit is named, those of the base and 4 of moved nodes, else 8 of moved nodes
+unfoldable pub pagesBefore : List View → Held → ℕ
+pagesBefore v s = cond (newer v) (basePages (length (s .index)) + 4) 8
+
+-- a serial for each of these pages and of the group's suffices
+unfoldable pub ByPages : Type 0
+ByPages =
+    (w : World) (h : History) (s : Held) (ks ws : List ℕ) → Meets13 w h s ks ws
+    → s .head .serial + (pagesBefore (views (w .medium)) s + pagesFor (length ks)) ≤ 2 ^ 64 - 1 → Suffice ks ws w
+
+-- so 16 serials suffice: a base takes at most 8 pages, and the group 4
 unfoldable pub Sixteen : Type 0
 Sixteen = (w : World) (h : History) (s : Held) (ks ws : List ℕ) → Meets13 w h s ks ws → s .head .serial + 16 ≤ 2 ^ 64 - 1 → Suffice ks ws w
 

@@ -3,11 +3,12 @@ use mathlib.Core.Path.{_≡_, refl, sym, ap, subst, _∙_}
 use mathlib.Core.Bool.{true, false}
 use mathlib.Core.Option.{Option, some}
 use mathlib.Core.List.{List}
-use Prim.Native.Nat.{ℕ}
+use Prim.Native.Nat.{ℕ, _^_}
 use native.Mathlib.Omega.{arith}
 use lib.Dec.{eqb}
 use lib.ListN.{length}
 use borrow.Author.Tests.{eqb-true, not-true}
+use Rattle.lists.specs.Lists.{Below}
 use Rattle.lists.specs.Needs.{Answer, refused, gives}
 use Rattle.lists.proofs.Laws.{by-cases, true-false, checked-cases, same-given, given-refused, answered-refused, answered-gives, gave-number, gave-value}
 use Rattle.flash.specs.Medium.{views}
@@ -28,13 +29,13 @@ use Rattle.dispatcher.specs.declared.NextOperation.{NextOperation}
 use Rattle.dispatcher.specs.Dispatch.{Next, nextOf, written, Names}
 use Rattle.dispatcher.specs.Named.{callOf, isBegun, NamedBegins}
 use Rattle.dispatcher.proofs.Named.{named-begins}
-use Rattle.valve_log.specs.History.{History}
+use Rattle.valve_log.specs.History.{History, tell}
 use Rattle.valve_log.specs.Reached.{World, world, withState, Event, stepDue, happen, finishes, Reached, Point3}
 use Rattle.valve_log.proofs.Point3.{point3}
-use Rattle.housekeeping.specs.Bound.{isUnfinished, Finishes, namedIn, appendIn, Leads, here, commits, collects, Admits, commitsIn, collectionsIn, EndsWith, Bounded, Meets13, Bound, Sharper, Sixteen}
-use Rattle.housekeeping.proofs.Bound.{bound, sharper, sixteen}
-use Rattle.journal.specs.Run.{Machine, machine, meant, worldOf, Moves, Run, saysFinished, finishedBy}
-use Rattle.journal.specs.Housekeeping.{asking, stepping, inLog, Stage, LetsIn, Answers13, LetsInBy, BoundOfCode, SharperOfCode, SixteenOfCode}
+use Rattle.housekeeping.specs.Bound.{isUnfinished, Finishes, namedIn, appendIn, Leads, here, commits, collects, Admits, commitsIn, collectionsIn, EndsWith, Bounded, Meets13, Bound, Sharper, ByPages, Sixteen}
+use Rattle.housekeeping.proofs.Bound.{bound, sharper, by-pages, sixteen}
+use Rattle.journal.specs.Run.{Machine, machine, meant, worldOf, Moves, toldBy, Run, saysFinished, finishedBy}
+use Rattle.journal.specs.Housekeeping.{asking, stepping, inLog, Stage, LetsIn, Answers13, LetsInBy, BoundOfCode, SharperOfCode, ByPagesOfCode, SixteenOfCode}
 use Rattle.journal.proofs.Chain.{moves, runs, answers-finished}
 
 -- ---- what the answers of the calls say
@@ -91,16 +92,27 @@ module _ (m : List ℕ) (s : State) (b : List ℕ) (r : Stepped) (m′ b′ : Li
 
 -- ---- the way
 
-module _ (ks ws : List ℕ) where
+-- a machine that a run leads to, and its world
+record Stands (x : Machine) (w : World) : Type 0 where
+  is : worldOf x ≡ w
+  history : History
+  run : Run x history
+
+-- the run goes on
+on : {x y : Machine} {w w′ : World} (e : Event (worldOf x)) → Stands x w → Moves x e y → worldOf y ≡ w′ → Stands y w′
+on {x} {y} e P v q = record { is = q; history = tell (P .history) (toldBy x y e v); run = Run.next x y (P .history) e (P .run) v }
+
+module _ (ks ws : List ℕ) (narrow : Below (2 ^ 16) ks) (small : Below (2 ^ 64) ws) where
   -- an operation pending is carried to its end
-  carried : (i j : ℕ) (then : Stage) (w w′ : World) → Finishes w w′ → (m : List ℕ) (s : State) (b : List ℕ) → worldOf (machine m (some s) b) ≡ w
-      → ((m : List ℕ) (s : State) (b : List ℕ) → worldOf (machine m (some s) b) ≡ w′ → LetsIn ks ws i j then (machine m (some s) b)) → LetsIn ks ws i j (stepping then) (machine m (some s) b)
-  carried i j then w w′ (Finishes.last w₁ e) m s b p k =
-      LetsIn.last m s b (λ r m′ b′ q. says-last r (step-finishes m s b r m′ b′ q ∙ ap (λ (z : World). finishes (stepDue z)) p ∙ e))
-      (λ r m′ b′ q. k m′ (r .state) b′ (step-after m s b r m′ b′ q ∙ ap (λ (z : World). happen z Event.step .after) p))
-  carried i j then w w′ (Finishes.more w₁ w₂ u F) m s b p k =
-      LetsIn.step m s b (λ r m′ b′ q. step-more m s b r m′ b′ q (ap (λ (z : World). isUnfinished (stepDue z)) p ∙ u))
-      (λ r m′ b′ q. carried i j then (happen w Event.step .after) w′ F m′ (r .state) b′ (step-after m s b r m′ b′ q ∙ ap (λ (z : World). happen z Event.step .after) p) k)
+  carried : (i j : ℕ) (then : Stage) (w w′ : World) → Finishes w w′ → (m : List ℕ) (s : State) (b : List ℕ) → Stands (machine m (some s) b) w
+      → ((m : List ℕ) (s : State) (b : List ℕ) → Stands (machine m (some s) b) w′ → LetsIn ks ws i j then (machine m (some s) b)) → LetsIn ks ws i j (stepping then) (machine m (some s) b)
+  carried i j then w w′ (Finishes.last w₁ e) m s b P k =
+      LetsIn.last m s b (λ r m′ b′ q. says-last r (step-finishes m s b r m′ b′ q ∙ ap (λ (z : World). finishes (stepDue z)) (P .is) ∙ e))
+      (λ r m′ b′ q. k m′ (r .state) b′ (on Event.step P (Moves.step m m′ s b b′ r q) (step-after m s b r m′ b′ q ∙ ap (λ (z : World). happen z Event.step .after) (P .is))))
+  carried i j then w w′ (Finishes.more w₁ w₂ u F) m s b P k =
+      LetsIn.step m s b (λ r m′ b′ q. step-more m s b r m′ b′ q (ap (λ (z : World). isUnfinished (stepDue z)) (P .is) ∙ u))
+      (λ r m′ b′ q. carried i j then (happen w Event.step .after) w′ F m′ (r .state) b′
+      (on Event.step P (Moves.step m m′ s b b′ r q) (step-after m s b r m′ b′ q ∙ ap (λ (z : World). happen z Event.step .after) (P .is))) k)
 
   module _ (m : List ℕ) (s : State) (b : List ℕ) (w : World) (p : worldOf (machine m (some s) b) ≡ w) (op : Next) (n : namedIn w ks ws ≡ gives op) where
     named-so : nextOf (length m) (views m) (meaning s) b ks ws true ≡ gives op
@@ -132,31 +144,38 @@ module _ (ks ws : List ℕ) where
 
   -- the append named where the way ends
   append-way : (w end : World) (s′ : Held) → namedIn w ks ws ≡ gives Next.append → appendIn w ks ws ≡ gives s′ → Finishes (world (w .medium) (some s′) (w .buffer)) end
-      → (g : History) → Reached end g → EndsWith (zip ks ws) (g .log) → (m : List ℕ) (s : State) (b : List ℕ) → worldOf (machine m (some s) b) ≡ w → LetsIn ks ws 0 0 asking (machine m (some s) b)
+      → (g : History) → Reached end g → EndsWith (zip ks ws) (g .log) → (m : List ℕ) (s : State) (b : List ℕ) → Stands (machine m (some s) b) w → LetsIn ks ws 0 0 asking (machine m (some s) b)
   unfolding written callOf
-  append-way w end s′ n o F g R E m s b p =
-      LetsIn.append m s b (answered-so m s b w p Next.append n) (λ r q. begun-number s (appendOf (length m) (views m) (meaning s) b ks ws) r q (begins-so m s b w p Next.append n))
-      (λ r q. carried 0 0 inLog (world (w .medium) (some s′) (w .buffer)) end F m (r .state) b (append-after m s b w p s′ o r q)
-      (λ m′ t b′ e. LetsIn.appended (machine m′ (some t) b′) (λ h T. subst (EndsWith (zip ks ws)) (same-log end (machine m′ (some t) b′) e g h R T) E)))
+  append-way w end s′ n o F g R E m s b P =
+      LetsIn.append m s b (answered-so m s b w (P .is) Next.append n) (λ r q. begun-number s (appendOf (length m) (views m) (meaning s) b ks ws) r q (begins-so m s b w (P .is) Next.append n))
+      (λ r q. carried 0 0 inLog (world (w .medium) (some s′) (w .buffer)) end F m (r .state) b
+      (on (Event.append ks ws narrow small) P (Moves.append m s b ks ws narrow small r q) (append-after m s b w (P .is) s′ o r q))
+      (λ m′ t b′ Q. LetsIn.appended (machine m′ (some t) b′) (Q .history) (Q .run)
+      (subst (EndsWith (zip ks ws)) (same-log end (machine m′ (some t) b′) (Q .is) g (Q .history) R (Q .run)) E)))
 
-  ways : (ops : List Next) (w end : World) → Leads ks ws ops w end → ((m : List ℕ) (s : State) (b : List ℕ) → worldOf (machine m (some s) b) ≡ end → LetsIn ks ws 0 0 asking (machine m (some s) b))
-      → (m : List ℕ) (s : State) (b : List ℕ) → worldOf (machine m (some s) b) ≡ w → LetsIn ks ws (commitsIn ops) (collectionsIn ops) asking (machine m (some s) b)
+  ways : (ops : List Next) (w end : World) → Leads ks ws ops w end → ((m : List ℕ) (s : State) (b : List ℕ) → Stands (machine m (some s) b) end → LetsIn ks ws 0 0 asking (machine m (some s) b))
+      → (m : List ℕ) (s : State) (b : List ℕ) → Stands (machine m (some s) b) w → LetsIn ks ws (commitsIn ops) (collectionsIn ops) asking (machine m (some s) b)
   unfolding written callOf commitsIn collectionsIn
-  ways ops w end (here w₁) z m s b p = z m s b p
-  ways ops w end (commits {ops = l} w₁ w′ end₁ n F A) z m s b p =
-      LetsIn.commit m s b (answered-so m s b w p Next.commit n) (λ r q. begun-number s (commitOf (length m) (views m) (meaning s) b) r q (begins-so m s b w p Next.commit n))
+  ways ops w end (here w₁) z m s b P = z m s b P
+  ways ops w end (commits {ops = l} w₁ w′ end₁ n F A) z m s b P =
+      LetsIn.commit m s b (answered-so m s b w (P .is) Next.commit n) (λ r q. begun-number s (commitOf (length m) (views m) (meaning s) b) r q (begins-so m s b w (P .is) Next.commit n))
       (λ r q. carried (commitsIn l) (collectionsIn l) asking (happen w Event.commit .after) w′ F m (r .state) b
-      (moves (machine m (some s) b) (machine m (some (r .state)) b) Event.commit (Moves.commit m s b r q) ∙ ap (λ (z : World). happen z Event.commit .after) p) (ways l w′ end A z))
-  ways ops w end (collects {ops = l} w₁ w′ end₁ x n F A) z m s b p =
-      LetsIn.collect m s b x (answered-so m s b w p (Next.collect x) n) (λ r q. begun-number s (collectOf (length m) (views m) (meaning s) b x) r q (begins-so m s b w p (Next.collect x) n))
+      (on Event.commit P (Moves.commit m s b r q)
+      (moves (machine m (some s) b) (machine m (some (r .state)) b) Event.commit (Moves.commit m s b r q) ∙ ap (λ (z : World). happen z Event.commit .after) (P .is))) (ways l w′ end A z))
+  ways ops w end (collects {ops = l} w₁ w′ end₁ x n F A) z m s b P =
+      LetsIn.collect m s b x (answered-so m s b w (P .is) (Next.collect x) n)
+      (λ r q. begun-number s (collectOf (length m) (views m) (meaning s) b x) r q (begins-so m s b w (P .is) (Next.collect x) n))
       (λ r q. carried (commitsIn l) (collectionsIn l) asking (happen w (Event.collect x) .after) w′ F m (r .state) b
-      (moves (machine m (some s) b) (machine m (some (r .state)) b) (Event.collect x) (Moves.collect m s b x r q) ∙ ap (λ (z : World). happen z (Event.collect x) .after) p) (ways l w′ end A z))
+      (on (Event.collect x) P (Moves.collect m s b x r q)
+      (moves (machine m (some s) b) (machine m (some (r .state)) b) (Event.collect x) (Moves.collect m s b x r q) ∙ ap (λ (z : World). happen z (Event.collect x) .after) (P .is))) (ways l w′ end A z))
 
-  way-in : (ops : List Next) (end : World) (g : History) (x : Machine) (s : State) → x .state ≡ some s → Admits ks ws ops (worldOf x) end → Reached end g → EndsWith (zip ks ws) (g .log)
-      → LetsIn ks ws (commitsIn ops) (collectionsIn ops) asking x
-  way-in ops end g x s e A R E =
-      subst (λ (o : Option State). LetsIn ks ws (commitsIn ops) (collectionsIn ops) asking (machine (x .medium) o (x .buffer))) (sym e)
-      (ways ops (worldOf x) (A .before) (A .leads) (append-way (A .before) end (A .begun) (A .named) (A .begins) (A .finishes) g R E) (x .medium) s (x .buffer) (ap (λ (o : Option State). worldOf (machine (x .medium) o (x .buffer))) (sym e)))
+  way-in : (ops : List Next) (end : World) (g h : History) (x : Machine) (s : State) → x .state ≡ some s → Run x h → Admits ks ws ops (worldOf x) end → Reached end g
+      → EndsWith (zip ks ws) (g .log) → LetsIn ks ws (commitsIn ops) (collectionsIn ops) asking x
+  way-in ops end g h x s e T A R E =
+      let q : x ≡ machine (x .medium) (some s) (x .buffer) = ap (λ (o : Option State). machine (x .medium) o (x .buffer)) e in
+      subst (LetsIn ks ws (commitsIn ops) (collectionsIn ops) asking) (sym q)
+      (ways ops (worldOf x) (A .before) (A .leads) (append-way (A .before) end (A .begun) (A .named) (A .begins) (A .finishes) g R E) (x .medium) s (x .buffer)
+      (record { is = ap worldOf (sym q); history = h; run = subst (λ (y : Machine). Run y h) q T }))
 
 -- ---- the bound
 
@@ -175,23 +194,27 @@ module _ (x : Machine) (h : History) (s : State) (ks ws : List ℕ) (M : Answers
         small = M .small;
       }
 
-lets-in-by : {ks ws : List ℕ} {a b : ℕ} (x : Machine) (s : State) → x .state ≡ some s → Bounded ks ws a b (worldOf x) → LetsInBy ks ws a b x
-lets-in-by {ks} {ws} x s e B =
+lets-in-by : {ks ws : List ℕ} {a b : ℕ} (x : Machine) (h : History) (s : State) → Answers13 x h s ks ws → Bounded ks ws a b (worldOf x) → LetsInBy ks ws a b x
+lets-in-by {ks} {ws} x h s M B =
     record {
       commits = commitsIn (B .operations);
       collections = collectionsIn (B .operations);
       few-commits = B .few-commits;
       few-collections = B .few-collections;
-      way = way-in ks ws (B .operations) (B .end) (B .history) x s e (B .admits) (B .reached) (B .in-log);
+      way = way-in ks ws (M .narrow) (M .small) (B .operations) (B .end) (B .history) h x s (M .state) (M .run) (B .admits) (B .reached) (B .in-log);
     }
 
 pub bound-of-code : BoundOfCode
 unfolding BoundOfCode Bound
-bound-of-code x h s ks ws M S = lets-in-by x s (M .state) (bound (worldOf x) h (meaning s) ks ws (meets x h s ks ws M) S)
+bound-of-code x h s ks ws M S = lets-in-by x h s M (bound (worldOf x) h (meaning s) ks ws (meets x h s ks ws M) S)
 
 pub sharper-of-code : SharperOfCode
 unfolding SharperOfCode Sharper
-sharper-of-code x h s ks ws M S = lets-in-by x s (M .state) (sharper (worldOf x) h (meaning s) ks ws (meets x h s ks ws M) S)
+sharper-of-code x h s ks ws M S = lets-in-by x h s M (sharper (worldOf x) h (meaning s) ks ws (meets x h s ks ws M) S)
+
+pub by-pages-of-code : ByPagesOfCode
+unfolding ByPagesOfCode ByPages
+by-pages-of-code x h s ks ws M k = by-pages (worldOf x) h (meaning s) ks ws (meets x h s ks ws M) k
 
 pub sixteen-of-code : SixteenOfCode
 unfolding SixteenOfCode Sixteen

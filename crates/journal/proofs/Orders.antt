@@ -10,28 +10,27 @@ use lib.ListN.{length, take}
 use borrow.Author.Tests.{lt-ltb}
 use Rattle.lists.specs.Needs.{Answer, refused, gives, Need, need, under, checked, answerOr, andThen, refusalOf}
 use Rattle.lists.specs.Cells.{Entry, Place}
+use Rattle.lists.specs.Lists.{every}
 use Rattle.lists.proofs.Laws.{by-cases, true-false, every-at}
 use Rattle.page.specs.Pages.{Page, View, changesOf}
 use Rattle.blocks.specs.Blocks.{sizeOk, pageDue}
 use Rattle.nodes.specs.Nodes.{sound, live, pickBelow}
 use Rattle.state.specs.State.{Pending, idle, append, commit, collect, format, flush, unnamed, Held, pendingFit, fit, isIdle, fitWith, bufferedIn}
-use Rattle.recovery.specs.Recovery.{recoverNeeds, recoveryWith, recoveredState, recover}
+use Rattle.flash.specs.Medium.{views}
+use Rattle.recovery.specs.Recovery.{Recovery, recoverNeeds, recover}
 use Rattle.readings.specs.Readings.{openingOf, lastNaming, sought, soughtIn, wordNeeds, wordRefusal, pickOf, surveyOf, availableOf, filedInto, filedLog, readLog, filedSettings, readSettings}
-use Rattle.calls.specs.Calls.{appendNeeds, appendOf, commitOf, collectOf, formatOf}
-use Rattle.calls.specs.Orders.{numbersOf}
-use Rattle.step.specs.Step.{Step, pageNeeds, programming, appendStep, commitStep, moveStep, collectStep, formatStep, flushStep, due, needsErase, erasedFirst, stepOf}
+use Rattle.calls.specs.Calls.{appendNeeds, appendOf, commitOf, collectOf}
+use Rattle.calls.specs.Orders.{numbersOf, refusalIn, InPapersOrder}
+use Rattle.calls.proofs.Orders.{checked-refusal, ordered}
+use Rattle.step.specs.Step.{Step, pageNeeds, programming, appendStep, commitStep, moveStep, collectStep, formatStep, flushStep, due, programsDue, needsErase, erasedFirst, stepOf}
+use Rattle.log_reader.specs.Reader.{startPlace, startOf}
 use Rattle.spans.specs.Spans.{spanEffect, effectOf}
 use Rattle.mattered.specs.Mattered.{listedIn, readMattered}
 use Rattle.wanted.specs.Wanted.{wantedOf}
 use Rattle.dispatcher.specs.Dispatch.{newer, naming, answers13, collection, roomMaker, nextOf}
-use Rattle.journal.specs.Orders.{refusalIn, Asks, logIn, ownNeeds, collectionRefusal, nextRefusal, AllOrders, AllInPapersOrder}
+use Rattle.journal.specs.Orders.{logIn, ownNeeds, stepNeeds, collectionRefusal, nextRefusal, StepOrders, AllOrders, AllInPapersOrder}
 
 -- ---- an answer under conditions
-
-checked-refusal : {A : Type 0} (cs : List Need) (x : A) → refusalIn (checked cs x) ≡ refusalOf cs
-unfolding refusalIn refusalOf under andThen answerOr
-checked-refusal [] x = refl
-checked-refusal (c ∷ cs) x = by-cases (c .holds) (λ e. rw e (checked-refusal cs x)) (λ e. rw e)
 
 under-refusal : {A : Type 0} (cs ds : List Need) (a : Answer A) → refusalIn a ≡ refusalOf ds → refusalIn (under cs a) ≡ refusalOf (cs ++ ds)
 unfolding refusalIn refusalOf under andThen answerOr
@@ -141,20 +140,50 @@ word-orders : (m : List ℕ) (v : List View) (s : Held) (b : List ℕ) (valve : 
 unfolding sought numbersOf
 word-orders m v s b valve o e = rw e
 
-moves : (v : List View) (s : Held) (block : ℕ) (x : Place) (xs : List Place) → live (s .index) block ≡ x ∷ xs → numbersOf (ownNeeds v s (collect block)) ≡ 6 ∷ 14 ∷ 16 ∷ []
-unfolding ownNeeds numbersOf
-moves v s block x xs e = let l : ltb 0 (length (x ∷ xs)) ≡ true = lt-ltb 0 (length (x ∷ xs)) (omega arith) in rw (e, l)
+-- the numbers of the step's conditions, by what is pending and whether a new head is erased first
+module _ (n : ℕ) (v : List View) (s : Held) (b : List ℕ) where
+  numbers : (p : Pending) (e : Bool) → s .pending ≡ p → needsErase v s ≡ e → numbersOf (stepNeeds n v s b) ≡ 1 ∷ 7 ∷ 9 ∷ numbersOf (cond e [] (ownNeeds v s p))
+  unfolding numbersOf
+  numbers p e q r =
+      ap (λ (x : Pending). 1 ∷ 7 ∷ 9 ∷ numbersOf (cond (needsErase v s) [] (ownNeeds v s x))) q ∙ ap (λ (x : Bool). 1 ∷ 7 ∷ 9 ∷ numbersOf (cond x [] (ownNeeds v s p))) r
 
-erases : (v : List View) (s : Held) (block : ℕ) → live (s .index) block ≡ [] → numbersOf (ownNeeds v s (collect block)) ≡ []
-unfolding ownNeeds numbersOf
-erases v s block e = rw e
+  -- an operation whose step does not program the page due erases no new head
+  no-head : (p : Pending) → s .pending ≡ p → programsDue (s .index) p ≡ false → needsErase v s ≡ false
+  unfolding needsErase every
+  no-head p q e = let z : programsDue (s .index) (s .pending) ≡ false = ap (programsDue (s .index)) q ∙ e in rw z
+
+  step-orders : StepOrders n v s b
+  unfolding numbersOf
+  step-orders =
+      record {
+        first = unfold stepOf in step-refusal n v s b (s .pending) refl;
+        none-due = λ q. numbers idle false q (no-head idle q (unfold programsDue in refl)) ∙ (unfold ownNeeds in refl);
+        first-erase = λ e. numbers (s .pending) true refl e;
+        collection-ends = λ block q l. numbers (collect block) false q (no-head (collect block) q (unfold programsDue in rw l)) ∙ (unfold ownNeeds in rw l);
+        format-erases = λ k q l. numbers (format k) false q (no-head (format k) q (unfold programsDue in refl)) ∙ (unfold ownNeeds in rw l);
+        append-page = λ es ps e q. numbers (append es ps) false q e ∙ (unfold ownNeeds in refl);
+        commit-page = λ k e q. numbers (commit k) false q e ∙ (unfold ownNeeds in refl);
+        flush-page = λ e q. numbers flush false q e ∙ (unfold ownNeeds in refl);
+        moved-page = λ block x xs e q l. numbers (collect block) false q e ∙ (unfold ownNeeds in rw (l, lt-ltb 0 (length (x ∷ xs)) (omega arith)));
+        format-page = λ k q l. numbers (format k) false q (no-head (format k) q (unfold programsDue in refl)) ∙ (unfold ownNeeds in rw l);
+      }
+
+-- ---- a log reader made
+
+made-refusal : (m : List ℕ) (a : Answer Recovery) → startPlace m a .number ≡ refusalIn a
+unfolding startPlace refusalIn andThen answerOr
+made-refusal m (refused n) = refl
+made-refusal m (gives r) = refl
 
 pub all-ordered : AllInPapersOrder
 unfolding AllInPapersOrder numbersOf
 all-ordered n v s b lists =
     record {
-      format = unfold formatOf in checked-refusal _ _;
+      begins = λ ks ws block. unfold InPapersOrder in ordered n v s b ks ws block;
+      step = step-orders n v s b;
+      next = λ ks ws read. next-refusal n v s b ks ws read;
       recovery = record { first = unfold recover in checked-refusal _ _; order = refl };
+      reader = λ m. unfold startOf in made-refusal m (recover (length m) (views m));
       log = record { first = unfold readLog recover filedLog filedInto logIn in then-refusal (recoverNeeds n v) _ _ _ (checked-refusal _ _); order = refl };
       span = λ first second. record { first = unfold effectOf recover spanEffect logIn in then-refusal (recoverNeeds n v) _ _ _ (checked-refusal _ _); order = refl };
       mattered = λ out. record { first = unfold readMattered recover listedIn logIn in then-refusal (recoverNeeds n v) _ _ _ (checked-refusal _ _); order = refl };
@@ -167,11 +196,4 @@ all-ordered n v s b lists =
       word = λ m valve. unfold wordRefusal in refl;
       word-in-buffer = λ m valve i e. word-orders m v s b valve (some i) e ∙ (unfold soughtIn in refl);
       word-in-medium = λ m valve e. word-orders m v s b valve none e ∙ (unfold soughtIn in refl);
-      step = unfold stepOf in step-refusal n v s b (s .pending) refl;
-      append-step = λ es ps. unfold ownNeeds in refl;
-      commit-step = λ k. unfold ownNeeds in refl;
-      flush-step = unfold ownNeeds in refl;
-      move-step = λ block x xs e. moves v s block x xs e;
-      erase-step = λ block e. erases v s block e;
-      next = λ ks ws read. next-refusal n v s b ks ws read;
     }

@@ -8,7 +8,10 @@ use Prim.Native.Nat.{ℕ, suc, _+_, _-_, _^_, _≤_}
 use lib.ListN.{length}
 use Rattle.lists.specs.Lists.{Below}
 use Rattle.blocks.specs.Blocks.{sizeOk}
+use Rattle.page.specs.Pages.{pagesFor}
+use Rattle.flash.specs.Medium.{views}
 use Rattle.state.specs.declared.State.{State}
+use Rattle.state.specs.State.{meaning}
 use Rattle.read.specs.declared.Supplied.{Supplied}
 use Rattle.read.specs.Answers.{Supplies}
 use Rattle.begin.specs.declared.Begun.{Begun}
@@ -20,7 +23,7 @@ use Rattle.dispatcher.specs.declared.NextOperation.{NextOperation}
 use Rattle.dispatcher.specs.Dispatch.{Names}
 use Rattle.valve_log.specs.History.{History}
 use Rattle.valve_log.specs.Reached.{fresh}
-use Rattle.housekeeping.specs.Bound.{EndsWith, Suffice}
+use Rattle.housekeeping.specs.Bound.{EndsWith, Suffice, pagesBefore}
 use Rattle.journal.specs.Run.{Machine, machine, worldOf, Run}
 
 -- an answer of `next` that refuses nothing
@@ -50,7 +53,7 @@ pub data LetsIn (ks ws : List ℕ) : ℕ → ℕ → Stage → Machine → Type 
       → ((r : Stepped) (m′ b′ : List ℕ) → Steps m s b r m′ b′ → LetsIn ks ws i j (stepping then) (machine m′ (some (r .state)) b′)) → LetsIn ks ws i j (stepping then) (machine m (some s) b)
   last : {i j : ℕ} {then : Stage} (m : List ℕ) (s : State) (b : List ℕ) → ((r : Stepped) (m′ b′ : List ℕ) → Steps m s b r m′ b′ → (r .number ≡ 0) × (r .finished ≡ true))
       → ((r : Stepped) (m′ b′ : List ℕ) → Steps m s b r m′ b′ → LetsIn ks ws i j then (machine m′ (some (r .state)) b′)) → LetsIn ks ws i j (stepping then) (machine m (some s) b)
-  appended : (x : Machine) → ((h : History) → Run x h → EndsWith (zip ks ws) (h .log)) → LetsIn ks ws 0 0 inLog x
+  appended : (x : Machine) (h : History) → Run x h → EndsWith (zip ks ws) (h .log) → LetsIn ks ws 0 0 inLog x
 
 -- Along a program's run, with the state last handed back and an empty buffer: "an append met 13 with at least 16 pages available", as the answers of
 -- `append` and `available` say, "no operation is pending". Keys have 16 bits and words 64.
@@ -77,8 +80,8 @@ pub record LetsInBy (ks ws : List ℕ) (most-commits most-collections : ℕ) (x 
   pub few-collections : collections ≤ most-collections
   pub way : LetsIn ks ws commits collections asking x
 
--- "serials suffice": `housekeeping` Bound's premise, of the world that the machine stands for. "at most one commit and at most two collections let that
--- same group in", of the code
+-- "at most one commit and at most two collections let that same group in", of the code. "serials suffice" is `housekeeping` Bound: `Suffice`, of the world
+-- that the machine stands for: on the way `next` does not answer 14.
 unfoldable pub BoundOfCode : Type 0
 BoundOfCode = (x : Machine) (h : History) (s : State) (ks ws : List ℕ) → Answers13 x h s ks ws → Suffice ks ws (worldOf x) → LetsInBy ks ws 1 2 x
 
@@ -86,7 +89,13 @@ BoundOfCode = (x : Machine) (h : History) (s : State) (ks ws : List ℕ) → Ans
 unfoldable pub SharperOfCode : Type 0
 SharperOfCode = (x : Machine) (h : History) (s : State) (ks ws : List ℕ) → Answers13 x h s ks ws → Suffice ks ws (worldOf x) → LetsInBy ks ws 1 1 x
 
--- 16 serials suffice
+-- a serial for each page that the way takes suffices
+unfoldable pub ByPagesOfCode : Type 0
+ByPagesOfCode =
+    (x : Machine) (h : History) (s : State) (ks ws : List ℕ) → Answers13 x h s ks ws
+    → s .head .serial + (pagesBefore (views (x .medium)) (meaning s) + pagesFor (length ks)) ≤ 2 ^ 64 - 1 → Suffice ks ws (worldOf x)
+
+-- so 16 serials suffice
 unfoldable pub SixteenOfCode : Type 0
 SixteenOfCode = (x : Machine) (h : History) (s : State) (ks ws : List ℕ) → Answers13 x h s ks ws → s .head .serial + 16 ≤ 2 ^ 64 - 1 → Suffice ks ws (worldOf x)
 
