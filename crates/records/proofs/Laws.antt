@@ -1,16 +1,16 @@
 -- What the walk over records notes, step by step.
 use mathlib.Core.Path.{_≡_, refl, sym, ap, _∙_}
-use mathlib.Core.Bool.{Bool, true, false, not, cond, _&&_}
+use mathlib.Core.Bool.{Bool, true, false, not, _&&_}
 use mathlib.Core.List.{List, _∷_}
 use Prim.Native.Nat.{ℕ, suc, _+_, _≤_, _<_}
 use native.Mathlib.Omega.{arith}
-use lib.ListN.{length, getD, drop, drop-of-length-le, set}
+use lib.ListN.{length, getD, drop, drop-of-length-le}
 use lib.Seq.{drop-cons}
 use lib.Dec.{leb, ltb}
 use borrow.Author.Tests.{lt-leb, le-leb, not-true, not-false}
 use Rattle.records.specs.declared.Record.{Record}
 use Rattle.records.specs.declared.Notes.{Notes}
-use Rattle.records.specs.Records.{stillRises, notedPast, notedAt, noted, notedAll}
+use Rattle.records.specs.Records.{stillRises, noted, notedAll}
 
 pub not-rising : (b : Bool) (least v : ℕ) → not b ≡ true → false ≡ stillRises b least v
 unfolding stillRises
@@ -28,19 +28,14 @@ pub goes-on : (b : Bool) (least v : ℕ) → not b ≡ false → least ≤ v →
 unfolding stillRises
 goes-on b least v e h = ap (λ (t : Bool). t && ltb v 32768) (sym (le-leb _ _ h)) ∙ ap (λ (t : Bool). t && (leb least v && ltb v 32768)) (sym (not-false b e))
 
-pub noted-past : (n : Notes) (r : Record) (b : Bool) → b ≡ stillRises (n .rises) (n .least) (r .valve) → 192 ≤ n .count
-    → _≡_ {A = Notes} (record { rises = b; least = r .valve + 1; count = 193; keys = n .keys; vals = n .vals }) (noted n r)
-unfolding noted notedPast
-noted-past n r b e h =
-    ap (λ (t : Bool). record { rises = t; least = r .valve + 1; count = 193; keys = n .keys; vals = n .vals }) e
-    ∙ ap (λ (t : Bool). cond t (notedPast n r) (notedAt n r)) (sym (le-leb _ _ h))
+module _ (n : Notes) (r : Record) (b : Bool) (e : b ≡ stillRises (n .rises) (n .least) (r .valve)) where
+  pub noted-past : 192 ≤ n .count → _≡_ {A = Notes} (record { rises = b; least = r .valve + 1; count = 193 }) (noted n r)
+  unfolding noted
+  noted-past h = rw (e, le-leb 192 (n .count) h)
 
-pub noted-at : (n : Notes) (r : Record) (b : Bool) → b ≡ stillRises (n .rises) (n .least) (r .valve) → n .count < 192
-    → _≡_ {A = Notes} (record { rises = b; least = r .valve + 1; count = n .count + 1; keys = set (n .keys) (n .count) (r .valve); vals = set (n .vals) (n .count) (r .word) }) (noted n r)
-unfolding noted notedAt
-noted-at n r b e h =
-    ap (λ (t : Bool). record { rises = t; least = r .valve + 1; count = n .count + 1; keys = set (n .keys) (n .count) (r .valve); vals = set (n .vals) (n .count) (r .word) }) e
-    ∙ ap (λ (t : Bool). cond t (notedPast n r) (notedAt n r)) (sym (lt-leb _ _ h))
+  pub noted-at : n .count < 192 → _≡_ {A = Notes} (record { rises = b; least = r .valve + 1; count = n .count + 1 }) (noted n r)
+  unfolding noted
+  noted-at h = rw (e, lt-leb 192 (n .count) h)
 
 -- the walk: start, next, end
 pub all-next : (ys : List Record) (i : ℕ) (d : Record) (n q : Notes) {x : Notes} → i < length ys → q ≡ noted n (getD ys i d) → notedAll n (drop i ys) ≡ x → notedAll q (drop (i + 1) ys) ≡ x

@@ -2,7 +2,6 @@
 use mathlib.Core.Bool.{Bool, true, cond, _&&_}
 use mathlib.Core.List.{List, [], _∷_}
 use Prim.Native.Nat.{ℕ, _+_}
-use lib.ListN.{replicate, set}
 use lib.Dec.{leb, ltb}
 use Rattle.lists.specs.Cells.{cell, Setting}
 use Rattle.records.specs.declared.Record.{Record}
@@ -17,31 +16,15 @@ wantedSettings (r ∷ rs) = cell (r .valve) (r .word) ∷ wantedSettings rs
 
 -- none yet
 unfoldable pub unnoted : Notes
-unnoted = record { rises = true; least = 0; count = 0; keys = replicate 192 0; vals = replicate 192 0 }
+unnoted = record { rises = true; least = 0; count = 0 }
 
 -- The valves so far rise strictly and are below 32768 (b), and so with one more; `least` is the least valve that may come: one above the last.
 unfoldable pub stillRises : Bool → ℕ → ℕ → Bool
 stillRises b least valve = b && (leb least valve && ltb valve 32768)
 
--- One record more where 192 are noted already: its valve is judged, and the count, 193 from now on, tells that there are too many; the record
--- itself is not kept.
-unfoldable pub notedPast : Notes → Record → Notes
-notedPast n r = record { rises = stillRises (n .rises) (n .least) (r .valve); least = r .valve + 1; count = 193; keys = n .keys; vals = n .vals }
-
--- one record more where there were fewer: it is kept as well
-unfoldable pub notedAt : Notes → Record → Notes
-notedAt n r =
-    record {
-      rises = stillRises (n .rises) (n .least) (r .valve);
-      least = r .valve + 1;
-      count = n .count + 1;
-      keys = set (n .keys) (n .count) (r .valve);
-      vals = set (n .vals) (n .count) (r .word);
-    }
-
--- one record more
+-- one record more: its valve is judged, and it is counted; from the 193rd on the count is 193, which tells that there are too many
 unfoldable pub noted : Notes → Record → Notes
-noted n r = cond (leb 192 (n .count)) (notedPast n r) (notedAt n r)
+noted n r = record { rises = stillRises (n .rises) (n .least) (r .valve); least = r .valve + 1; count = cond (leb 192 (n .count)) 193 (n .count + 1) }
 
 -- records in order
 unfoldable pub notedAll : Notes → List Record → Notes

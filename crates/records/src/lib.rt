@@ -1,4 +1,4 @@
-// A lent list of records, each a valve and its word, walked once; what the walk notes is a list of cells by value.
+// A lent list of records, each a valve and its word, walked once; what the walk notes are three numbers.
 ghost use mathlib.Core.Path.{_≡_};
 ghost use Rattle.records.specs.Records.{unnoted, stillRises, noted, notedAll};
 
@@ -15,10 +15,8 @@ pub struct Notes {
     pub rises: bool,
     // The least valve that may come next.
     pub least: u64,
-    // How many records there are, 193 for more than 192, and the first 192 of them.
+    // How many records there are, 193 for more than 192.
     pub count: usize,
-    pub keys: [u16; 192],
-    pub vals: [u64; 192],
 }
 
 // Nothing noted yet.
@@ -29,8 +27,6 @@ fn start() -> Notes
         rises: true,
         least: 0,
         count: 0,
-        keys: [0u16; 192],
-        vals: [0u64; 192],
     }
 }
 
@@ -60,8 +56,6 @@ fn note(n: Notes, r: Record) -> Notes
         return q;
     }
     q.count = at + 1;
-    q.keys[at] = r.valve;
-    q.vals[at] = r.word;
     q
 }
 

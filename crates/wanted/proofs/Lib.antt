@@ -1,5 +1,5 @@
 pub mod Laws
-pub mod Noted
 pub mod Order
 pub mod Append
 pub mod Serves
+pub mod InTurn

@@ -91,23 +91,23 @@ module _ (v : List View) (s : Held) (w : List Setting) (f : fit v s ≡ true) (r
   unfolding fit
   index-fit = every-at 1 _ f
 
-  present-rises : rising (present v s) ≡ true
+  pub present-rises : rising (present v s) ≡ true
   unfolding indexFit rising
   present-rises = rising-words v 0 (s .index) ∙ every-at 1 _ index-fit
 
-  present-valves : all isValve (present v s) ≡ true
+  pub present-valves : all isValve (present v s) ≡ true
   unfolding isValve
   present-valves = all-words (λ k. ltb k 32768) v (s .index) ∙ all-valves (s .head .blocks) (s .index) index-fit
 
-  present-few : length (present v s) ≤ 192
+  pub present-few : length (present v s) ≤ 192
   unfolding indexFit
   present-few = let z = words-length v (s .index) in let y = leb-true (length (s .index)) 192 (every-at 0 _ index-fit) in omega (arith, z, y)
 
-  wanted-rises : rising w ≡ true
+  pub wanted-rises : rising w ≡ true
   unfolding valvesOk
   wanted-rises = every-at 0 _ r
 
-  wanted-valves : all isValve w ≡ true
+  pub wanted-valves : all isValve w ≡ true
   unfolding valvesOk
   wanted-valves = every-at 1 _ r
 

@@ -1,3 +1,3 @@
 pub mod Wanted
 pub mod Serves
-pub mod Noted
+pub mod InTurn

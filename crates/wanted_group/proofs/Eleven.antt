@@ -11,9 +11,6 @@ use Rattle.lists.specs.declared.Cell.{Cell}
 use Rattle.lists.specs.Lists.{all}
 use Rattle.lists.proofs.Laws.{by-cases, true-false, all-head, all-tail, all-cons, by-eq}
 use Rattle.index.specs.Index.{lookup, risingFrom, rising, assignAll, entryAllowed, entriesAllowed}
-use Rattle.lists.specs.declared.Found.{Found}
-use Rattle.lists.specs.declared.Found.the-variants.{At, Missing}
-use Rattle.lists.specs.Found.{foundOf}
 use Rattle.index.proofs.Rising.{rising-head, rising-tail, rising-cons}
 use Rattle.wanted_group.specs.Group.{isValve, same, removalsFor, settingsFor, groupFor}
 use Rattle.index.proofs.Lookup.{valve, word, lookup-none, lookup-here, lookup-before}
@@ -26,11 +23,11 @@ unfolding entryAllowed
 removal-ok x = let h : 32768 ≤ x .key + 32768 = omega arith in rw (le-ltb (x .key + 32768) 32768 h, eq-eqb 0 0 refl)
 
 -- an entry that sets a valve is allowed exactly where the valve is not 0
-setting-ok : (y : Cell) → isValve y ≡ true → entryAllowed y ≡ leb 1 (y .key)
+pub setting-ok : (y : Cell) → isValve y ≡ true → entryAllowed y ≡ leb 1 (y .key)
 unfolding entryAllowed isValve
 setting-ok y h = rw h
 
-ok-none : entriesAllowed [] ≡ true
+pub ok-none : entriesAllowed [] ≡ true
 unfolding entriesAllowed all
 ok-none = refl
 
@@ -102,10 +99,14 @@ settings-allowed s (y ∷ ys) r a =
     let past = positive (y .key) h in
     ok-settings s (y ∷ ys) (y .key) past (rising-cons (y .key) y ys (omega arith) tail) a ∙ sym (ap (zeroStands (lookup 0 s)) (lookup-before 0 y ys past)))
 
--- "what Paper 2's wanted list would need": an entry that sets valve 0, exactly where valve 0 is wanted and does not stand so
-pub group-allowed : (s w : List Cell) → rising w ≡ true → all isValve w ≡ true → entriesAllowed (groupFor s w) ≡ zeroStands (lookup 0 s) (lookup 0 w)
+-- condition 11 asks only of the settings: a removal is allowed
+pub group-settings : (s w : List Cell) → entriesAllowed (groupFor s w) ≡ entriesAllowed (settingsFor s w)
 unfolding groupFor
-group-allowed s w r a = ok-before (removalsFor s w) (settingsFor s w) (ok-removals s w) ∙ settings-allowed s w r a
+group-settings s w = ok-before (removalsFor s w) (settingsFor s w) (ok-removals s w)
+
+-- "what Paper 2's wanted list would need": an entry that sets valve 0, exactly where valve 0 is wanted and does not stand so
+group-allowed : (s w : List Cell) → rising w ≡ true → all isValve w ≡ true → entriesAllowed (groupFor s w) ≡ zeroStands (lookup 0 s) (lookup 0 w)
+group-allowed s w r a = group-settings s w ∙ settings-allowed s w r a
 
 -- ---- and then every list that leads there sets valve 0
 
@@ -145,16 +146,3 @@ zero-needed s w es r q a h e =
     ∙ zero-spared es (lookup 0 s) (lookup 0 s) b (stands-itself (lookup 0 s)))
     e)
     (λ b. b)
-
--- ---- in code
-
--- what valve 0 was found to have among the wanted ones, and whether it stands so
-module _ (s w : List Cell) (r : Found) (e : foundOf r ≡ lookup 0 w) (q : rising w ≡ true) (a : all isValve w ≡ true) where
-  allowed-is : (d : Found) → r ≡ d → entriesAllowed (groupFor s w) ≡ zeroStands (lookup 0 s) (foundOf d)
-  allowed-is d f = group-allowed s w q a ∙ ap (zeroStands (lookup 0 s)) (sym e ∙ ap foundOf f)
-
-  pub allowed-missing : r ≡ Missing → true ≡ entriesAllowed (groupFor s w)
-  allowed-missing f = sym (allowed-is Missing f)
-
-  pub allowed-at : (x : ℕ) (b : Bool) → r ≡ At x → b ≡ same (lookup 0 s) (some x) → b ≡ entriesAllowed (groupFor s w)
-  allowed-at x b f h = h ∙ sym (allowed-is (At x) f)

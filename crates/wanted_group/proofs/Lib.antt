@@ -4,3 +4,5 @@ pub mod Fewest
 pub mod Eleven
 pub mod Accepted
 pub mod Turns
+pub mod Comparison
+pub mod Together

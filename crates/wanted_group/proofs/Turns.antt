@@ -1,42 +1,23 @@
 -- The loops of the code: the entries put out so far, and those still to come.
 use mathlib.Core.Path.{_≡_, refl, sym, ap, _∙_}
-use mathlib.Core.Bool.{Bool, true, false}
-use mathlib.Core.Option.{Option, some}
+use mathlib.Core.Bool.{true, false}
 use mathlib.Core.List.{List, [], _∷_, _++_, append-nil}
-use Prim.Native.Nat.{ℕ, _+_, _≤_, _<_}
+use Prim.Native.Nat.{ℕ, suc, _+_, _≤_, _<_}
 use native.Mathlib.Omega.{arith}
 use lib.ListN.{length, getD, drop, set, replicate, length-set, length-append}
-use lib.Seq.{append-snoc}
-use lib.Dec.{eqb}
-use borrow.Author.Tests.{ltb-true, le-leb, lt-leb}
+use lib.Seq.{append-snoc, drop-cons}
+use borrow.Author.Tests.{ltb-true, le-leb, lt-leb, eq-eqb, ne-eqb}
 use Rattle.lists.specs.declared.Cell.{Cell}
 use Rattle.lists.specs.declared.Cells.{Cells}
-use Rattle.lists.specs.Lists.{isSome, all}
+use Rattle.lists.specs.Lists.{all}
 use Rattle.lists.specs.Cells.{cell, pairs, listed}
 use Rattle.lists.proofs.Laws.{pairs-none, pairs-cons, pairs-past, length-pairs, all-head, all-drop}
-use Rattle.index.specs.Index.{lookup}
-use Rattle.lists.specs.declared.Found.{Found}
-use Rattle.lists.specs.declared.Found.the-variants.{At, Missing}
 use Rattle.index.specs.Search.{Kept}
-use Rattle.lists.specs.Found.{foundOf}
 use Rattle.index.proofs.Pairs.{pairs-snoc}
-use Rattle.wanted_group.specs.Group.{isValve, same, removalsFor, settingsFor, groupFor}
-use Rattle.wanted_group.specs.Limited.{LimitedGroup, limited, limitedBy}
-use Rattle.wanted_group.proofs.Leads.{removals-kept, removals-gone, settings-same, settings-new}
-
--- ---- a word found under a valve
-
-abbrev atFound : ℕ → Found → Bool
-atFound w (At x) = eqb x w
-atFound w Missing = false
-
-pub at-told : (r d : Found) (o : Option ℕ) (w : ℕ) (b : Bool) → r ≡ d → foundOf r ≡ o → atFound w d ≡ b → b ≡ same o (some w)
-unfolding same
-at-told r d o w b f e g = sym g ∙ ap (atFound w) (sym f) ∙ go r ∙ ap (λ (t : Option ℕ). same t (some w)) e
-  where
-    go : (r : Found) → atFound w r ≡ same (foundOf r) (some w)
-    go (At x) = refl
-    go Missing = refl
+use Rattle.wanted_group.specs.declared.Compared.{Compared}
+use Rattle.wanted_group.specs.Group.{isValve}
+use Rattle.wanted_group.specs.Compare.{unnamed}
+use Rattle.wanted_group.specs.Limited.{LimitedGroup, tooMany, limited, limitedBy}
 
 -- ---- two arrays with the first n entries of a list; after i turns, the rest is still to come
 
@@ -81,116 +62,105 @@ place xs ys i = cell (getD xs i 0) (getD ys i 0)
 
 -- ---- removals
 
-abbrev toRemove : ℕ → List ℕ → List ℕ → List Cell → ℕ → List Cell
-toRemove c xs ys w i = removalsFor (drop i (pairs c xs ys)) w
+-- those of the places from i on
+abbrev toRemove : ℕ → List ℕ → List ℕ → List ℕ → ℕ → List Cell
+toRemove c xs ys fs i = unnamed (drop i fs) (drop i (pairs c xs ys))
 
-pub record Removing (c : ℕ) (xs ys : List ℕ) (w : List Cell) (n i : ℕ) (ks vs : List ℕ) : Type 0 where
+pub record Removing (c : ℕ) (xs ys fs : List ℕ) (n i : ℕ) (ks vs : List ℕ) : Type 0 where
   pub far : i ≤ c
-  pub fill : Filling (removalsFor (pairs c xs ys) w) (toRemove c xs ys w i) n i ks vs
+  pub few : c ≤ 192
+  pub valves : all isValve (pairs c xs ys) ≡ true
+  pub flags : length fs ≡ 193
+  pub fill : Filling (unnamed fs (pairs c xs ys)) (toRemove c xs ys fs i) n i ks vs
 
-pub removing-start : (c : ℕ) (xs ys : List ℕ) (w : List Cell) → Removing c xs ys w 0 0 (replicate 192 0) (replicate 192 0)
-removing-start c xs ys w = record { far = omega arith; fill = fill-start (removalsFor (pairs c xs ys) w) }
+pub removing-start : (c : ℕ) (xs ys fs : List ℕ) → c ≤ 192 → all isValve (pairs c xs ys) ≡ true → length fs ≡ 193
+    → Removing c xs ys fs 0 0 (replicate 192 0) (replicate 192 0)
+removing-start c xs ys fs few v l = record { far = omega arith; few = few; valves = v; flags = l; fill = fill-start (unnamed fs (pairs c xs ys)) }
 
-module _ (c : ℕ) (xs ys : List ℕ) (w : List Cell) (n i : ℕ) (ks vs : List ℕ) (h : i < c) (few : c ≤ 192) where
-  removing-cons : toRemove c xs ys w i ≡ removalsFor (place xs ys i ∷ drop (i + 1) (pairs c xs ys)) w
-  removing-cons = ap (λ (x : List Cell). removalsFor x w) (pairs-cons c xs ys i h)
+module _ (c : ℕ) (xs ys fs : List ℕ) (n i : ℕ) (ks vs : List ℕ) (h : i < c) (g : Removing c xs ys fs n i ks vs) where
+  removing-cons : toRemove c xs ys fs i ≡ unnamed (getD fs i 0 ∷ drop (i + 1) fs) (place xs ys i ∷ drop (i + 1) (pairs c xs ys))
+  removing-cons =
+      let one : suc i ≡ i + 1 = omega arith in
+      let l = g .flags in
+      let few = g .few in
+      ap (unnamed (drop i fs)) (pairs-cons c xs ys i h)
+      ∙ ap (λ (t : List ℕ). unnamed t (place xs ys i ∷ drop (i + 1) (pairs c xs ys))) (drop-cons fs i 0 (omega (arith, l, h, few)))
+      ∙ ap (λ (j : ℕ). unnamed (getD fs i 0 ∷ drop j fs) (place xs ys i ∷ drop (i + 1) (pairs c xs ys))) one
 
-  module _ (b : Bool) (e : b ≡ isSome (lookup (getD xs i 0) w)) (g : Removing c xs ys w n i ks vs) where
-    pub removing-skip : b ≡ true → Removing c xs ys w n (i + 1) ks vs
-    removing-skip t =
-        let same-rest = removing-cons ∙ removals-kept (place xs ys i) (drop (i + 1) (pairs c xs ys)) w (sym e ∙ t) in
-        record { far = omega (arith, h); fill = fill-skip (removalsFor (pairs c xs ys) w) (toRemove c xs ys w i) (toRemove c xs ys w (i + 1)) n i ks vs same-rest (g .fill) }
+  removing-kept : (getD fs i 0 ≡ 0 → ⊥) → toRemove c xs ys fs i ≡ toRemove c xs ys fs (i + 1)
+  unfolding unnamed
+  removing-kept t = removing-cons ∙ rw (ne-eqb (getD fs i 0) 0 t)
 
-    pub removing-push : b ≡ false → Removing c xs ys w (n + 1) (i + 1) (set ks n (getD xs i 0 + 32768)) (set vs n 0)
-    removing-push t =
-        let one-more = removing-cons ∙ removals-gone (place xs ys i) (drop (i + 1) (pairs c xs ys)) w (sym e ∙ t) in
-        record {
-          far = omega (arith, h);
-          fill =
-              fill-push (removalsFor (pairs c xs ys) w) (toRemove c xs ys w i) (toRemove c xs ys w (i + 1)) n i ks vs (getD xs i 0 + 32768) 0
-              (omega (arith, h, few)) one-more (g .fill);
-        }
+  removing-gone : getD fs i 0 ≡ 0 → toRemove c xs ys fs i ≡ cell (getD xs i 0 + 32768) 0 ∷ toRemove c xs ys fs (i + 1)
+  unfolding unnamed
+  removing-gone t = removing-cons ∙ rw (eq-eqb (getD fs i 0) 0 t)
 
-no-removals : (w : List Cell) → removalsFor [] w ≡ []
-unfolding removalsFor
-no-removals w = refl
+  pub removing-skip : (getD fs i 0 ≡ 0 → ⊥) → Removing c xs ys fs n (i + 1) ks vs
+  removing-skip t =
+      record {
+        far = omega (arith, h);
+        few = g .few;
+        valves = g .valves;
+        flags = g .flags;
+        fill = fill-skip (unnamed fs (pairs c xs ys)) (toRemove c xs ys fs i) (toRemove c xs ys fs (i + 1)) n i ks vs (removing-kept t) (g .fill);
+      }
 
-pub removing-end : (c : ℕ) (xs ys : List ℕ) (w : List Cell) (n i : ℕ) (ks vs : List ℕ) → c ≤ i → c ≤ 192 → Removing c xs ys w n i ks vs
-    → Kept n (pairs n ks vs) (removalsFor (pairs c xs ys) w)
-removing-end c xs ys w n i ks vs h few g =
-    let over = ap (λ (x : List Cell). removalsFor x w) (pairs-past c xs ys i h) ∙ no-removals w in
+  pub removing-push : getD fs i 0 ≡ 0 → Removing c xs ys fs (n + 1) (i + 1) (set ks n (getD xs i 0 + 32768)) (set vs n 0)
+  removing-push t =
+      let few = g .few in
+      record {
+        far = omega (arith, h);
+        few = g .few;
+        valves = g .valves;
+        flags = g .flags;
+        fill =
+            fill-push (unnamed fs (pairs c xs ys)) (toRemove c xs ys fs i) (toRemove c xs ys fs (i + 1)) n i ks vs (getD xs i 0 + 32768) 0
+            (omega (arith, h, few)) (removing-gone t) (g .fill);
+      }
+
+no-removals : (fs : List ℕ) → unnamed fs [] ≡ []
+unfolding unnamed
+no-removals fs = refl
+
+pub removing-end : (c : ℕ) (xs ys fs : List ℕ) (n i : ℕ) (ks vs : List ℕ) → c ≤ i → Removing c xs ys fs n i ks vs
+    → Kept n (pairs n ks vs) (unnamed fs (pairs c xs ys))
+removing-end c xs ys fs n i ks vs h g =
+    let over = ap (unnamed (drop i fs)) (pairs-past c xs ys i h) ∙ no-removals (drop i fs) in
     let z = g .fill .few in
     let y = g .far in
-    fill-end (removalsFor (pairs c xs ys) w) (toRemove c xs ys w i) n i ks vs over (omega (arith, z, y, few)) (g .fill)
+    let few = g .few in
+    fill-end (unnamed fs (pairs c xs ys)) (toRemove c xs ys fs i) n i ks vs over (omega (arith, z, y, few)) (g .fill)
 
 -- a valve that is set is below 32768, so that the key that removes it has 16 bits
-pub key-low : (c : ℕ) (xs ys : List ℕ) (i : ℕ) → i < c → all isValve (pairs c xs ys) ≡ true → getD xs i 0 < 32768
+key-low : (c : ℕ) (xs ys : List ℕ) (i : ℕ) → i < c → all isValve (pairs c xs ys) ≡ true → getD xs i 0 < 32768
 unfolding isValve
 key-low c xs ys i h a =
     ltb-true (getD xs i 0) 32768
     (all-head isValve (place xs ys i) (drop (i + 1) (pairs c xs ys))
     (ap (all isValve) (sym (pairs-cons c xs ys i h)) ∙ all-drop isValve i (pairs c xs ys) a))
 
--- ---- settings
+pub removing-low : (c : ℕ) (xs ys fs : List ℕ) (n i : ℕ) (ks vs : List ℕ) → i < c → Removing c xs ys fs n i ks vs → getD xs i 0 < 32768
+removing-low c xs ys fs n i ks vs h g = key-low c xs ys i h (g .valves)
 
-abbrev toSet : List Cell → ℕ → List ℕ → List ℕ → ℕ → List Cell
-toSet s c xs ys i = settingsFor s (drop i (pairs c xs ys))
-
-pub record Setting (s : List Cell) (c : ℕ) (xs ys : List ℕ) (n i : ℕ) (ks vs : List ℕ) : Type 0 where
-  pub far : i ≤ c
-  pub fill : Filling (settingsFor s (pairs c xs ys)) (toSet s c xs ys i) n i ks vs
-
-pub setting-start : (s : List Cell) (c : ℕ) (xs ys : List ℕ) → Setting s c xs ys 0 0 (replicate 192 0) (replicate 192 0)
-setting-start s c xs ys = record { far = omega arith; fill = fill-start (settingsFor s (pairs c xs ys)) }
-
-module _ (s : List Cell) (c : ℕ) (xs ys : List ℕ) (n i : ℕ) (ks vs : List ℕ) (h : i < c) (few : c ≤ 192) where
-  setting-cons : toSet s c xs ys i ≡ settingsFor s (place xs ys i ∷ drop (i + 1) (pairs c xs ys))
-  setting-cons = ap (settingsFor s) (pairs-cons c xs ys i h)
-
-  module _ (b : Bool) (e : b ≡ same (lookup (getD xs i 0) s) (some (getD ys i 0))) (g : Setting s c xs ys n i ks vs) where
-    pub setting-skip : b ≡ true → Setting s c xs ys n (i + 1) ks vs
-    setting-skip t =
-        let same-rest = setting-cons ∙ settings-same s (place xs ys i) (drop (i + 1) (pairs c xs ys)) (sym e ∙ t) in
-        record { far = omega (arith, h); fill = fill-skip (settingsFor s (pairs c xs ys)) (toSet s c xs ys i) (toSet s c xs ys (i + 1)) n i ks vs same-rest (g .fill) }
-
-    pub setting-push : b ≡ false → Setting s c xs ys (n + 1) (i + 1) (set ks n (getD xs i 0)) (set vs n (getD ys i 0))
-    setting-push t =
-        let one-more = setting-cons ∙ settings-new s (place xs ys i) (drop (i + 1) (pairs c xs ys)) (sym e ∙ t) in
-        record {
-          far = omega (arith, h);
-          fill =
-              fill-push (settingsFor s (pairs c xs ys)) (toSet s c xs ys i) (toSet s c xs ys (i + 1)) n i ks vs (getD xs i 0) (getD ys i 0)
-              (omega (arith, h, few)) one-more (g .fill);
-        }
-
-no-settings : (s : List Cell) → settingsFor s [] ≡ []
-unfolding settingsFor
-no-settings s = refl
-
-pub setting-end : (s : List Cell) (c : ℕ) (xs ys : List ℕ) (n i : ℕ) (ks vs : List ℕ) → c ≤ i → c ≤ 192 → Setting s c xs ys n i ks vs
-    → Kept n (pairs n ks vs) (settingsFor s (pairs c xs ys))
-setting-end s c xs ys n i ks vs h few g =
-    let over = ap (settingsFor s) (pairs-past c xs ys i h) ∙ no-settings s in
-    let z = g .fill .few in
-    let y = g .far in
-    fill-end (settingsFor s (pairs c xs ys)) (toSet s c xs ys i) n i ks vs over (omega (arith, z, y, few)) (g .fill)
-
--- ---- one list after another
+-- ---- the settings after the removals
 
 abbrev pub cellsOf : ℕ → List ℕ → List ℕ → Cells
 cellsOf n ks vs = record { count = n; keys = ks; vals = vs }
 
-pub record Appending (a b : Cells) (n i : ℕ) (ks vs : List ℕ) : Type 0 where
+abbrev setsIn : Compared → List Cell
+setsIn b = pairs (b .count) (b .keys) (b .vals)
+
+pub record Appending (a : Cells) (b : Compared) (n i : ℕ) (ks vs : List ℕ) : Type 0 where
   pub top : n ≡ a .count + i
   pub far : i ≤ b .count
   pub long : length ks ≡ 192
   pub long₂ : length vs ≡ 192
-  pub so : pairs n ks vs ++ drop i (listed b) ≡ listed a ++ listed b
+  pub so : pairs n ks vs ++ drop i (setsIn b) ≡ listed a ++ setsIn b
 
-pub append-start : (a b : Cells) → length (a .keys) ≡ 192 → length (a .vals) ≡ 192 → Appending a b (a .count) 0 (a .keys) (a .vals)
+pub append-start : (a : Cells) (b : Compared) → length (a .keys) ≡ 192 → length (a .vals) ≡ 192 → Appending a b (a .count) 0 (a .keys) (a .vals)
 append-start a b l m = record { top = omega arith; far = omega arith; long = l; long₂ = m; so = refl }
 
-pub append-next : (a b : Cells) (n i : ℕ) (ks vs : List ℕ) → i < b .count → a .count + b .count ≤ 96 → Appending a b n i ks vs
+pub append-next : (a : Cells) (b : Compared) (n i : ℕ) (ks vs : List ℕ) → i < b .count → a .count + b .count ≤ 96 → Appending a b n i ks vs
     → Appending a b (n + 1) (i + 1) (set ks n (getD (b .keys) i 0)) (set vs n (getD (b .vals) i 0))
 append-next a b n i ks vs h few g =
     let z = g .top in
@@ -204,41 +174,34 @@ append-next a b n i ks vs h few g =
       long = length-set ks n k ∙ g .long;
       long₂ = length-set vs n v ∙ g .long₂;
       so =
-          ap (λ (t : List Cell). t ++ drop (i + 1) (listed b)) (pairs-snoc n ks vs k v l₁ l₂)
-          ∙ append-snoc (pairs n ks vs) (cell k v) (drop (i + 1) (listed b))
+          ap (λ (t : List Cell). t ++ drop (i + 1) (setsIn b)) (pairs-snoc n ks vs k v l₁ l₂)
+          ∙ append-snoc (pairs n ks vs) (cell k v) (drop (i + 1) (setsIn b))
           ∙ ap (λ (t : List Cell). pairs n ks vs ++ t) (sym (pairs-cons (b .count) (b .keys) (b .vals) i h))
           ∙ g .so;
     }
 
-length-both : (a b : Cells) → length (listed a ++ listed b) ≡ a .count + b .count
+length-both : (a : Cells) (b : Compared) → length (listed a ++ setsIn b) ≡ a .count + b .count
 length-both a b =
-    let z = length-append (listed a) (listed b) in
+    let z = length-append (listed a) (setsIn b) in
     let x = length-pairs (a .count) (a .keys) (a .vals) in
     let y = length-pairs (b .count) (b .keys) (b .vals) in
     omega (arith, z, x, y)
 
-pub append-over : (a b e : Cells) → 96 < a .count + b .count → e .count ≡ 0 → listed e ≡ []
-    → Kept (e .count) (limitedBy (record { found = false; cells = e })) (limited (listed a ++ listed b))
+pub append-over : (a : Cells) (b : Compared) (n : ℕ) (r : LimitedGroup) → 96 < a .count + b .count → Kept n r tooMany → Kept n r (limited (listed a ++ setsIn b))
 unfolding limited
-append-over a b e h z q =
+append-over a b n r h g =
     let y = length-both a b in
-    let big : 96 < length (listed a ++ listed b) = omega (arith, y, h) in
-    record { few = omega (arith, z); so = ap (λ (t : List Cell). record { found = false; entries = t }) q ∙ rw (lt-leb _ _ big) }
+    let big : 96 < length (listed a ++ setsIn b) = omega (arith, y, h) in
+    record { few = g .few; so = g .so ∙ rw (lt-leb _ _ big) }
 
-pub append-end : (a b : Cells) (n i : ℕ) (ks vs : List ℕ) → b .count ≤ i → a .count + b .count ≤ 96 → Appending a b n i ks vs
-    → Kept n (limitedBy (record { found = true; cells = cellsOf n ks vs })) (limited (listed a ++ listed b))
+pub append-end : (a : Cells) (b : Compared) (n i : ℕ) (ks vs : List ℕ) → b .count ≤ i → a .count + b .count ≤ 96 → Appending a b n i ks vs
+    → Kept n (limitedBy (record { found = true; cells = cellsOf n ks vs })) (limited (listed a ++ setsIn b))
 unfolding limited
 append-end a b n i ks vs h few g =
     let past = ap (λ (t : List Cell). pairs n ks vs ++ t) (sym (pairs-past (b .count) (b .keys) (b .vals) i h)) in
-    let e : pairs n ks vs ≡ listed a ++ listed b = sym (append-nil (pairs n ks vs)) ∙ past ∙ g .so in
+    let e : pairs n ks vs ≡ listed a ++ setsIn b = sym (append-nil (pairs n ks vs)) ∙ past ∙ g .so in
     let z = length-both a b in
-    let small : length (listed a ++ listed b) ≤ 96 = omega (arith, z, few) in
+    let small : length (listed a ++ setsIn b) ≤ 96 = omega (arith, z, few) in
     let y = g .top in
     let x = g .far in
     record { few = omega (arith, y, x, few); so = ap (λ (t : List Cell). record { found = true; entries = t }) e ∙ rw (le-leb _ _ small) }
-
-pub group-is : (s w a b : List Cell) (n : ℕ) (r : LimitedGroup) → a ≡ removalsFor s w → b ≡ settingsFor s w → Kept n r (limited (a ++ b))
-    → Kept n r (limited (groupFor s w))
-unfolding groupFor
-group-is s w a b n r p q g =
-    record { few = g .few; so = g .so ∙ ap (λ (t : List Cell). limited (t ++ b)) p ∙ ap (λ (t : List Cell). limited (removalsFor s w ++ t)) q }

@@ -1,2 +1,3 @@
 pub mod Group
 pub mod Limited
+pub mod Compare

@@ -11,9 +11,13 @@ pub record LimitedGroup : Type 0 where
   pub found : Bool
   pub entries : List Entry
 
+-- more than that
+abbrev pub tooMany : LimitedGroup
+tooMany = record { found = false; entries = [] }
+
 -- entries, or none where they are more than 96
 unfoldable pub limited : List Entry → LimitedGroup
-limited es = cond (leb (length es) 96) (record { found = true; entries = es }) (record { found = false; entries = [] })
+limited es = cond (leb (length es) 96) (record { found = true; entries = es }) tooMany
 
 -- what the code's struct says
 abbrev pub limitedBy : Limited → LimitedGroup

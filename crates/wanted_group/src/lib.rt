@@ -1,109 +1,140 @@
-// The group that leads from settings to wanted ones.
+// The group that leads from settings to wanted ones: wanted records are compared with the present settings one by one.
 ghost use mathlib.Core.Path.{_≡_};
-ghost use mathlib.Core.Bool.{true};
-ghost use mathlib.Core.Option.{some};
+ghost use mathlib.Core.Bool.{true, _&&_};
 ghost use mathlib.Core.List.{_++_};
 ghost use Prim.Native.Nat.{_≤_};
-ghost use Rattle.lists.specs.Lists.{isSome, all};
-ghost use Rattle.lists.specs.Cells.{listed, pairs};
-ghost use Rattle.index.specs.Index.{lookup, entriesAllowed};
+ghost use lib.Dec.{leb};
+ghost use lib.ListN.{length};
+ghost use Rattle.lists.specs.Lists.{all};
+ghost use Rattle.lists.specs.Cells.{cell, listed, pairs};
 ghost use Rattle.index.specs.Search.{Kept};
 ghost use Rattle.index.specs.Lent.{Lent};
-ghost use Rattle.wanted_group.specs.Group.{isValve, same, removalsFor, settingsFor, groupFor};
-ghost use Rattle.wanted_group.specs.Limited.{limited, limitedBy};
+ghost use Rattle.wanted_group.specs.Group.{isValve};
+ghost use Rattle.wanted_group.specs.Limited.{tooMany, limited, limitedBy};
+ghost use Rattle.wanted_group.specs.Compare.{notCompared, withSetting, comparedWith, unnamed, groupOf, soFar, Comparing, ComesTo, PlaceIn, standsAt};
 use lists::Cells;
-use lists::Found;
 
-// Whether a valve is set among the first n settings of two lent arrays.
-fn is_set<'a>(keys: &'a [u16], vals: &'a [u64], n: usize, valve: u16) -> bool
-    requires { ⌜ Lent n (now keys) (now vals) ⌝ }
-    ensures { λ r. ⌜ r ≡ isSome (lookup valve (pairs n (now (keys .entry)) (now (vals .entry)))) ⌝ }
+// What wanted records, compared with the present settings one by one, have come to so far.
+pub struct Compared {
+    // For each place of the present settings 0 until a record has named its valve. A valve that stands at none goes to the place past them.
+    pub named: [u8; 193],
+    // Whether no record so far sets valve 0 anew.
+    pub allowed: bool,
+    // Whether more than 96 records so far do not stand so.
+    pub more: bool,
+    // How many do not stand so, at most 96, and the first 96 of them.
+    pub count: usize,
+    pub keys: [u16; 96],
+    pub vals: [u64; 96],
+}
+
+// Nothing compared yet.
+pub fn not_compared() -> Compared
+    ensures { λ r. ⌜ ComesTo notCompared r ⌝ }
 {
-    let found = index::find_in(keys, vals, n, valve);
-    match found {
-        Found::At(_) => true,
-        Found::Missing => false,
+    Compared {
+        named: [0u8; 193],
+        allowed: true,
+        more: false,
+        count: 0,
+        keys: [0u16; 96],
+        vals: [0u64; 96],
     }
 }
 
-// Whether a valve has this word there.
-fn is_at<'a>(keys: &'a [u16], vals: &'a [u64], n: usize, valve: u16, word: u64) -> bool
+// The place of a valve among the first n keys, n where it stands at none.
+fn place_of<'a>(keys: &'a [u16], vals: &'a [u64], n: usize, valve: u16) -> usize
     requires { ⌜ Lent n (now keys) (now vals) ⌝ }
-    ensures { λ r. ⌜ r ≡ same (lookup valve (pairs n (now (keys .entry)) (now (vals .entry)))) (some word) ⌝ }
+    ensures { λ r. ⌜ PlaceIn valve n (now (keys .entry)) r ⌝ }
 {
-    let found = index::find_in(keys, vals, n, valve);
-    match found {
-        Found::At(x) => x == word,
-        Found::Missing => false,
+    let at = arrays::rank16(keys, n, valve);
+    if n <= at {
+        return n;
     }
+    if keys[at] != valve {
+        return n;
+    }
+    at
 }
 
-// The removals: of each of the n valves that are set and not among the w wanted ones.
-fn removals<'a, 'b>(
-    keys: &'a [u16],
-    vals: &'a [u64],
-    n: usize,
-    wkeys: &'b [u16],
-    wvals: &'b [u64],
-    w: usize,
-) -> Cells
-    requires { ⌜ Lent n (now keys) (now vals) × Lent w (now wkeys) (now wvals) × (all isValve (pairs n (now keys) (now vals)) ≡ true) ⌝ }
-    ensures { λ r. ⌜ Kept (r .count) (listed r) (removalsFor (pairs n (now (keys .entry)) (now (vals .entry))) (pairs w (now (wkeys .entry)) (now (wvals .entry)))) ⌝ }
+// Whether a word stands at a place below n.
+fn stands(vals: &[u64], n: usize, at: usize, word: u64) -> bool
+    requires { ⌜ n ≤ length (now vals) ⌝ }
+    ensures { λ r. ⌜ r ≡ standsAt n (now (vals .entry)) at word ⌝ }
 {
-    let mut out_keys = [0u16; 192];
-    let mut out_vals = [0u64; 192];
+    if n <= at {
+        return false;
+    }
+    vals[at] == word
+}
+
+// Whether valve 0 is still not set anew, with one setting more.
+fn still_allowed(allowed: bool, valve: u16) -> bool
+    ensures { λ r. ⌜ r ≡ (allowed && leb 1 valve) ⌝ }
+{
+    if valve == 0 {
+        return false;
+    }
+    allowed
+}
+
+// One setting more.
+fn with_setting(c: Compared, valve: u16, word: u64) -> Compared
+    requires { ⌜ Comparing c ⌝ }
+    ensures { λ r. ⌜ ComesTo (withSetting (soFar c) (cell valve word)) r ⌝ }
+{
+    let mut q = c;
+    q.allowed = still_allowed(c.allowed, valve);
+    let n = c.count;
+    if 96 <= n {
+        q.more = true;
+        return q;
+    }
+    q.count = n + 1;
+    q.keys[n] = valve;
+    q.vals[n] = word;
+    q
+}
+
+// One wanted record, a valve and its word, compared with the present settings.
+pub fn compare(present: Cells, c: Compared, valve: u16, word: u64) -> Compared
+    requires { ⌜ Lent (present .count) (present .keys) (present .vals) × Comparing c ⌝ }
+    ensures { λ r. ⌜ ComesTo (comparedWith (listed present) (soFar c) (cell valve word)) r ⌝ }
+{
+    let n = present.count;
+    let at = place_of(&present.keys, &present.vals, n, valve);
+    let mut q = c;
+    q.named[at] = 1;
+    if stands(&present.vals, n, at, word) {
+        return q;
+    }
+    with_setting(q, valve, word)
+}
+
+// The removals: of each present valve that no record has named.
+fn removals(present: Cells, c: Compared) -> Cells
+    requires { ⌜ (present .count ≤ 192) × (all isValve (listed present) ≡ true) ⌝ }
+    ensures { λ r. ⌜ Kept (r .count) (listed r) (unnamed (c .named) (listed present)) ⌝ }
+{
+    let n = present.count;
+    let mut keys = [0u16; 192];
+    let mut vals = [0u64; 192];
     let mut k: usize = 0;
     let mut i: usize = 0;
     while i < n {
-        let key = keys[i];
-        if is_set(wkeys, wvals, w, key) {
+        if c.named[i] != 0 {
             i += 1;
             continue;
         }
-        out_keys[k] = key + 32768;
-        out_vals[k] = 0;
+        keys[k] = present.keys[i] + 32768;
+        vals[k] = 0;
         k += 1;
         i += 1;
     }
     Cells {
         count: k,
-        keys: out_keys,
-        vals: out_vals,
-    }
-}
-
-// The settings: those of the w wanted ones that do not stand so among the n present ones.
-fn settings<'a, 'b>(
-    keys: &'a [u16],
-    vals: &'a [u64],
-    n: usize,
-    wkeys: &'b [u16],
-    wvals: &'b [u64],
-    w: usize,
-) -> Cells
-    requires { ⌜ Lent n (now keys) (now vals) × Lent w (now wkeys) (now wvals) ⌝ }
-    ensures { λ r. ⌜ Kept (r .count) (listed r) (settingsFor (pairs n (now (keys .entry)) (now (vals .entry))) (pairs w (now (wkeys .entry)) (now (wvals .entry)))) ⌝ }
-{
-    let mut out_keys = [0u16; 192];
-    let mut out_vals = [0u64; 192];
-    let mut k: usize = 0;
-    let mut i: usize = 0;
-    while i < w {
-        let key = wkeys[i];
-        let word = wvals[i];
-        if is_at(keys, vals, n, key, word) {
-            i += 1;
-            continue;
-        }
-        out_keys[k] = key;
-        out_vals[k] = word;
-        k += 1;
-        i += 1;
-    }
-    Cells {
-        count: k,
-        keys: out_keys,
-        vals: out_vals,
+        keys: keys,
+        vals: vals,
     }
 }
 
@@ -113,26 +144,33 @@ pub struct Limited {
     pub cells: Cells,
 }
 
-// One list after another.
-fn appended(a: Cells, b: Cells) -> Limited
-    requires { ⌜ (a .count ≤ 192) × (b .count ≤ 192) ⌝ }
-    ensures { λ r. ⌜ Kept (r .cells .count) (limitedBy r) (limited (listed a ++ listed b)) ⌝ }
+// More than 96 entries.
+fn too_many() -> Limited
+    ensures { λ r. ⌜ Kept (r .cells .count) (limitedBy r) tooMany ⌝ }
 {
-    let count = b.count;
+    let no_entries = index::empty();
+    Limited {
+        found: false,
+        cells: no_entries,
+    }
+}
+
+// The removals, and after them the settings that do not stand so.
+fn appended(a: Cells, c: Compared) -> Limited
+    requires { ⌜ (a .count ≤ 192) × (c .count ≤ 96) ⌝ }
+    ensures { λ r. ⌜ Kept (r .cells .count) (limitedBy r) (limited (listed a ++ pairs (c .count) (c .keys) (c .vals))) ⌝ }
+{
+    let count = c.count;
     if 96 < a.count + count {
-        let no_entries = index::empty();
-        return Limited {
-            found: false,
-            cells: no_entries,
-        };
+        return too_many();
     }
     let mut keys = a.keys;
     let mut vals = a.vals;
     let mut n = a.count;
     let mut i: usize = 0;
     while i < count {
-        keys[n] = b.keys[i];
-        vals[n] = b.vals[i];
+        keys[n] = c.keys[i];
+        vals[n] = c.vals[i];
         n += 1;
         i += 1;
     }
@@ -147,38 +185,14 @@ fn appended(a: Cells, b: Cells) -> Limited
     }
 }
 
-// The fewest entries that make the w wanted settings of the n present ones, removals first.
-pub fn group<'a, 'b>(
-    keys: &'a [u16],
-    vals: &'a [u64],
-    n: usize,
-    wkeys: &'b [u16],
-    wvals: &'b [u64],
-    w: usize,
-) -> Limited
-    requires { ⌜ Lent n (now keys) (now vals) × Lent w (now wkeys) (now wvals) × (all isValve (pairs n (now keys) (now vals)) ≡ true) ⌝ }
-    ensures { λ r. ⌜ Kept (r .cells .count) (limitedBy r) (limited (groupFor (pairs n (now (keys .entry)) (now (vals .entry))) (pairs w (now (wkeys .entry)) (now (wvals .entry))))) ⌝ }
+// The fewest entries that make the wanted settings of the present ones, removals first, when every wanted record has been compared.
+pub fn group(present: Cells, c: Compared) -> Limited
+    requires { ⌜ (present .count ≤ 192) × (all isValve (listed present) ≡ true) × Comparing c ⌝ }
+    ensures { λ r. ⌜ Kept (r .cells .count) (limitedBy r) (groupOf (listed present) (soFar c)) ⌝ }
 {
-    let a = removals(keys, vals, n, wkeys, wvals, w);
-    let b = settings(keys, vals, n, wkeys, wvals, w);
-    appended(a, b)
-}
-
-// Whether condition 11 takes the group, all of it, also where it has more than 96 entries: valve 0 is not wanted, or stands so already.
-pub fn entries_allowed<'a, 'b>(
-    keys: &'a [u16],
-    vals: &'a [u64],
-    n: usize,
-    wkeys: &'b [u16],
-    wvals: &'b [u64],
-    w: usize,
-) -> bool
-    requires { ⌜ Lent n (now keys) (now vals) × Lent w (now wkeys) (now wvals) × (all isValve (pairs w (now wkeys) (now wvals)) ≡ true) ⌝ }
-    ensures { λ r. ⌜ r ≡ entriesAllowed (groupFor (pairs n (now (keys .entry)) (now (vals .entry))) (pairs w (now (wkeys .entry)) (now (wvals .entry)))) ⌝ }
-{
-    let wanted = index::find_in(wkeys, wvals, w, 0);
-    match wanted {
-        Found::At(word) => is_at(keys, vals, n, 0, word),
-        Found::Missing => true,
+    if c.more {
+        return too_many();
     }
+    let a = removals(present, c);
+    appended(a, c)
 }

@@ -6,57 +6,29 @@ use Rattle.records.proofs.note.Reads as reads
 use Rattle.records.proofs.note.Lts as lts
 use Rattle.records.proofs.still_rises.Reads as still-rises-reads
 
--- src/lib.rt:54:15
+-- src/lib.rt:51:5
 still-rises-requires : tie.Need-still-rises-requires
 still-rises-requires c κs = search needs
 
--- src/lib.rt:55:15
+-- src/lib.rt:52:15
 cast-q : tie.Need-cast-q
 cast-q c = search needs
 
--- src/lib.rt:55:15
+-- src/lib.rt:52:15
 add-q : tie.Need-add-q
 add-q c = search needs
 
--- src/lib.rt:59:9
+-- src/lib.rt:56:9
 returns : tie.Need-returns
-returns c = search noted-past
+returns c = search (noted-past, needs)
 
--- src/lib.rt:61:15
+-- src/lib.rt:58:15
 add-q-2 : tie.Need-add-q-2
 add-q-2 c = search needs
 
--- src/lib.rt:62:5
-mul-q : tie.Need-mul-q
-mul-q c = search needs
-
--- src/lib.rt:62:5
-element-write-q : tie.Need-element-write-q
-element-write-q c = search needs
-
--- src/lib.rt:63:5
-mul-q-2 : tie.Need-mul-q-2
-mul-q-2 c = search needs
-
--- src/lib.rt:63:5
-element-write-q-2 : tie.Need-element-write-q-2
-element-write-q-2 c = search needs
-
--- src/lib.rt:50:1
+-- src/lib.rt:47:1
 returns-2 : tie.Need-returns-2
-returns-2 c = search noted-at
+returns-2 c = search (noted-at, needs)
 
 pub note-spec : {M : Type 1} → statement M
-note-spec =
-    tie.close
-    (tie.spec
-    still-rises-requires
-    cast-q
-    add-q
-    returns
-    add-q-2
-    mul-q
-    element-write-q
-    mul-q-2
-    element-write-q-2
-    returns-2)
+note-spec = tie.close (tie.spec still-rises-requires cast-q add-q returns add-q-2 returns-2)

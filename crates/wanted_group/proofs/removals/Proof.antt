@@ -1,69 +1,85 @@
 use Prim.Native.Nat.{_-_}
 use native.Mathlib.Omega.{arith}
-use Rattle.lists.specs.Cells.{pairs}
-use Rattle.wanted_group.proofs.Turns.{Removing, removing-start, removing-skip, removing-push, removing-end, key-low}
+use Rattle.wanted_group.proofs.Turns.{Removing, removing-start, removing-skip, removing-push, removing-end, removing-low}
 use borrow.Author.Needs.{needs}
 use Rattle.wanted_group.proofs.removals.Statement.{statement}
 use Rattle.wanted_group.proofs.removals.Tie as tie
+use Rattle.wanted_group.proofs.removals.Reads as reads
+use Rattle.wanted_group.proofs.removals.Lts as lts
 
 abbrev Inv-loop : tie.InvT-loop
-Inv-loop keys vals n wkeys wvals w out-keys₀ out-vals₀ k₀ i₀ out-keys out-vals k i = Removing n keys vals (pairs w wkeys wvals) k i out-keys out-vals
+Inv-loop present c n keys₀ vals₀ k₀ i₀ keys vals k i = Removing (present .count) (present .keys) (present .vals) (c .named) k i keys vals
 
 abbrev μ-loop : tie.MeasureT-loop
-μ-loop keys vals n wkeys wvals w out-keys₀ out-vals₀ k₀ i₀ out-keys out-vals k i = n - i
+μ-loop present c n keys₀ vals₀ k₀ i₀ keys vals k i = present .count - i
 
+-- src/lib.rt:124:5
 loop-holds : tie.Need-loop-holds Inv-loop μ-loop
-loop-holds c = removing-start _ _ _ _
+loop-holds c = search (removing-start, needs)
 
-mul-key : tie.Need-mul-key Inv-loop μ-loop
-mul-key c = search needs
+-- src/lib.rt:125:12
+element-copy-out-if1 : tie.Need-element-copy-out-if1 Inv-loop μ-loop
+element-copy-out-if1 c = search needs
 
-shared-slice-read-key : tie.Need-shared-slice-read-key Inv-loop μ-loop
-shared-slice-read-key c = search needs
-
-is-set-requires : tie.Need-is-set-requires Inv-loop μ-loop
-is-set-requires c κs = search needs
-
+-- src/lib.rt:126:13
 add-i : tie.Need-add-i Inv-loop μ-loop
 add-i c = search needs
 
+-- src/lib.rt:124:5
 loop-less : tie.Need-loop-less Inv-loop μ-loop
 loop-less c = search needs
 
+-- src/lib.rt:124:5
 loop-again : tie.Need-loop-again Inv-loop μ-loop
-loop-again c = search removing-skip
+loop-again c = search (removing-skip, needs)
 
-add-out-keys : tie.Need-add-out-keys Inv-loop μ-loop
-add-out-keys c =
-    let t = c .before .before .before in
-    record { fits = omega (arith, key-low _ _ _ _ (t .loop-test .taken) (t .before .before .before .before .before .before .pre .2)) }
+-- src/lib.rt:129:19
+mul-keys : tie.Need-mul-keys Inv-loop μ-loop
+mul-keys c = search needs
 
-mul-out-keys : tie.Need-mul-out-keys Inv-loop μ-loop
-mul-out-keys c = search needs
+-- src/lib.rt:129:19
+element-copy-out-keys : tie.Need-element-copy-out-keys Inv-loop μ-loop
+element-copy-out-keys c = search needs
 
-array-write-out-keys : tie.Need-array-write-out-keys Inv-loop μ-loop
-array-write-out-keys c = search needs
+-- src/lib.rt:129:19
+add-keys : tie.Need-add-keys Inv-loop μ-loop
+add-keys c = record { fits = omega (arith, removing-low _ _ _ _ _ _ _ _ (c .before .before .before .loop-test .taken) (c .before .before .before .before .loop .inv)) }
 
-mul-out-vals : tie.Need-mul-out-vals Inv-loop μ-loop
-mul-out-vals c = search needs
+-- src/lib.rt:129:9
+mul-keys-2 : tie.Need-mul-keys-2 Inv-loop μ-loop
+mul-keys-2 c = search needs
 
-array-write-out-vals : tie.Need-array-write-out-vals Inv-loop μ-loop
-array-write-out-vals c = search needs
+-- src/lib.rt:129:9
+array-write-keys : tie.Need-array-write-keys Inv-loop μ-loop
+array-write-keys c = search needs
 
+-- src/lib.rt:130:9
+mul-vals : tie.Need-mul-vals Inv-loop μ-loop
+mul-vals c = search needs
+
+-- src/lib.rt:130:9
+array-write-vals : tie.Need-array-write-vals Inv-loop μ-loop
+array-write-vals c = search needs
+
+-- src/lib.rt:131:9
 add-k : tie.Need-add-k Inv-loop μ-loop
 add-k c = search needs
 
+-- src/lib.rt:132:9
 add-i-2 : tie.Need-add-i-2 Inv-loop μ-loop
 add-i-2 c = search needs
 
+-- src/lib.rt:124:5
 loop-less-2 : tie.Need-loop-less-2 Inv-loop μ-loop
 loop-less-2 c = search needs
 
+-- src/lib.rt:124:5
 loop-again-2 : tie.Need-loop-again-2 Inv-loop μ-loop
-loop-again-2 c = search removing-push
+loop-again-2 c = search (removing-push, needs)
 
+-- src/lib.rt:115:1
 returns : tie.Need-returns Inv-loop μ-loop
-returns c = search removing-end
+returns c = search (removing-end, needs)
 
 pub removals-spec : {M : Type 1} → statement M
 removals-spec =
@@ -72,17 +88,17 @@ removals-spec =
     Inv-loop
     μ-loop
     loop-holds
-    mul-key
-    shared-slice-read-key
-    is-set-requires
+    element-copy-out-if1
     add-i
     loop-less
     loop-again
-    add-out-keys
-    mul-out-keys
-    array-write-out-keys
-    mul-out-vals
-    array-write-out-vals
+    mul-keys
+    element-copy-out-keys
+    add-keys
+    mul-keys-2
+    array-write-keys
+    mul-vals
+    array-write-vals
     add-k
     add-i-2
     loop-less-2
