@@ -169,13 +169,15 @@ class Edits(unittest.TestCase):
                  "page/said/.log": "note: proofs/Laws.antt:1:1: `a` is not in scope\n",
                  "page/step/.log": "note: what antt said of a `search` in the proof that rattle made: src/lib.rt:3:1: `slice-aggregate-step-2`: no\n",
                  "page/told/.log": "note: src/lib.rt:3:1: it is not proved that what the function ensures holds when it returns (`returns`)\n",
+                 "page/made/.log": "specs/Table.antt:8:5: error: `agree`: this `on` lands at index `93 ∷ []`\n",
+                 "page/spec/.log": "specs/Table.antt:3:5: error: `f`: expected type `ℕ`, but this has type `Bool`\n",
                  "page/none/.log": "logic=not-proved\n"}
         with files(texts) as folder:
             count, faults = edits.check_errors(folder)
-        self.assertEqual(count, 6)
+        self.assertEqual(count, 8)
         self.assertEqual([f.split(": ")[:2] for f in faults],
                          [["page/need", "a need that is gone"], ["page/none", "no error at all"], ["page/said", "a name that is not there"],
-                          ["page/step", "a step that the prover did not find by itself"]])
+                          ["page/spec", "a definition that is none"], ["page/step", "a step that the prover did not find by itself"]])
 
 
 if __name__ == "__main__":

@@ -20,7 +20,7 @@ HEADING = "## What is ruled out"
 TOKEN = re.compile(r"`(\w+)`|`[^`]*`|(?<!\w)(\w*_\w*)(?!\w)")
 # What a first error says where a fact no longer holds.
 FACTS = re.compile(r"no proof of|the two types|expected type|does not follow|it is not proved that|give a proof of that"
-                   r"|list the missing equation")
+                   r"|list the missing equation|lands at index")
 # What it says where an edit changed the shape of a proof, each with the words for it. The others are read by a person.
 SHAPES = [
     ("a need that is gone", re.compile(r"no `Need-")),
@@ -101,7 +101,7 @@ def shape_of(place, message):
     """The words for a first error that is no fact, or none."""
     if not place:
         return "no error at all"
-    if "/specs/" in place or place.startswith("specs/"):
+    if re.search(r"(^|/)specs/", place) and "lands at index" not in message:  # that is a computed example, which may stand there
         return "a definition that is none"
     words = next((words for words, form in SHAPES if form.search(message)), None)
     return words or (None if FACTS.search(message) else "not known to be a fact")
