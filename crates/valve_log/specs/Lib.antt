@@ -1,4 +1,5 @@
 pub mod History
+pub mod ValveZero
 pub mod Reached
 pub mod Steady
 pub mod Quiet
@@ -10,4 +11,3 @@ pub mod Settings
 pub mod Flushable
 pub mod Older
 pub mod SinceCommit
-pub mod ValveZero
