@@ -1,18 +1,18 @@
-/* The archive's morning: `archive CHIP FOLDER` reads a chip's image, a file of 4 to 256 blocks, files what is new in the folder, and commits.
+/* The archive's morning: `archive CHIP FOLDER` reads a chip's image, a file of 4 to 256 blocks, files in the folder what is new, and commits.
  * In the folder stand
  *   changes.csv   every change once, in order: a row `base,group,valve,word` each; a removal has no word
  *   settings.csv  the valves that are set, a row `valve,word` each, as they were filed last
- *   mark          the medium's length; of the log that was filed last the base, the next serial and the number of changes; and from which byte
- *                 of changes.csv up to which its rows stand
- * The rows are durable before the mark is written, and the mark before the commit begins; mark and settings take their place at one moment, by a
- * rename. Rows behind the mark's end are of a morning that was cut off: they are dropped, and filed again. So the program may be killed or lose
- * its power anywhere. It is run again, and each change is filed once.
- * `archive new CHIP FOLDER` starts a mark: once for a new folder, and each time the chip was formatted or is another one, before anything is
- * appended to it. The rows go on.
+ *   mark          the medium's length; of the log that was filed last the base, the next serial and the number of changes; and from
+ *                 which byte of changes.csv up to which its rows stand
+ * The rows are durable before the mark is written, and the mark before the commit begins; settings and mark take their place at one
+ * moment each, by a rename. Rows behind the mark's end are of a morning that was cut off: they are dropped, and filed again. So the
+ * program may be killed or lose its power anywhere. It is run again, and each change is filed once.
+ * `archive new CHIP FOLDER` starts a mark: once for a new folder, and each time the chip was formatted or is another one, before
+ * anything is appended to it. The rows go on.
  * The folder is locked meanwhile. Nobody else writes to the chip while the program runs, and nobody else commits.
  *
- * Exit status: 0 done. 1 somebody should look: the medium is refused or not the one that was filed, and nothing was filed or committed; or its
- * log is filed and the commit refused. 2 a file or the chip failed: run it again.
+ * Exit status: 0 done. 1 somebody should look: the medium is refused or not the one that was filed, and nothing was filed or
+ * committed; or its log is filed and the commit refused. 2 a file or the chip failed: run it again.
  *
  *   rt staticlib journal_c
  *   cc -std=c99 -Wall -Wextra -I include examples/archive.c target/staticlib/libjournal_c.a -o target/archive_c
@@ -41,13 +41,15 @@ static char rows[(size_t)CHANGES * ROW], filed[(size_t)CHANGES * ROW];
 
 /* What is filed. */
 typedef struct Mark {
-    uint64_t length, base, serial, count, begin, end;
+    uint64_t length, base, serial, changes, begin, end;
 } Mark;
 
 /* What is new on a medium: the changes from number `first` on; and its base, its next serial and its number of changes. */
 typedef struct News {
     uint8_t number; /* 0, or that of the refusal; then the rest is 0 */
-    uint64_t first, base, serial, count;
+    size_t first;
+    uint64_t base, serial;
+    size_t count;
 } News;
 
 /* Ends the program with a message; status 2 says which error it was. */
@@ -138,7 +140,7 @@ static void replace(const char *name, const char *temporary, const char *text, s
 /* The mark as a text; its length. */
 static size_t mark_text(char *text, const Mark *m)
 {
-    return (size_t)snprintf(text, MARK, MARK_FORM(PRIu64), m->length, m->base, m->serial, m->count, m->begin, m->end);
+    return (size_t)snprintf(text, MARK, MARK_FORM(PRIu64), m->length, m->base, m->serial, m->changes, m->begin, m->end);
 }
 
 static void write_mark(const Mark *mark)
@@ -163,15 +165,15 @@ static int read_mark(Mark *m)
     if (get(file, text, (size_t)length, 0) != 0)
         stop(2, "mark");
     close(file);
-    int n = sscanf(text, MARK_FORM(SCNu64), &m->length, &m->base, &m->serial, &m->count, &m->begin, &m->end);
+    int n = sscanf(text, MARK_FORM(SCNu64), &m->length, &m->base, &m->serial, &m->changes, &m->begin, &m->end);
     if (n != 6 || mark_text(same, m) != length || memcmp(text, same, MARK) != 0 || m->begin > m->end || m->end - m->begin > sizeof filed)
         stop(1, "the file mark is not a mark");
     return 1;
 }
 
-/* What is new on a medium, for an archive that filed so many changes of this base last, at this next serial. Refuses 1 to 6 as recovery does; 28 where
- * the medium is of an earlier moment than the filing, 29 where it is another one. */
-static News news(const uint8_t *bytes, size_t length, uint64_t base, uint64_t serial, uint64_t count)
+/* What is new on a medium, for an archive that filed so many changes of this base last, at this next serial. Refuses 1 to 6 as recovery
+ * does; 28 where the medium is of an earlier moment than the filing, 29 where it is another one. */
+static News news(const uint8_t *bytes, size_t length, uint64_t base, uint64_t serial, size_t count)
 {
     VjRecovered found = vj_recover(bytes, length);
     VjCount log = vj_log(bytes, length, keys, CHANGES, words, CHANGES, groups, CHANGES);
@@ -202,7 +204,7 @@ static News look(const char *name, const Mark *mark)
 {
     if (journal.length != mark->length)
         stop(1, "%s has %zu bytes, and the medium that was filed %" PRIu64 ": cut off, or another one", name, journal.length, mark->length);
-    News found = news(journal.medium, journal.length, mark->base, mark->serial, mark->count);
+    News found = news(journal.medium, journal.length, mark->base, mark->serial, (size_t)mark->changes);
     if (found.number == 28)
         stop(1, "%s is of an earlier moment than the last filing, or another medium, or formatted since (28)", name);
     if (found.number == 29)
@@ -244,16 +246,18 @@ static size_t file_settings(void)
     return set.count;
 }
 
-/* Files what is new: first the rows, then the settings, then the mark. Where the base is the one filed last, its rows are checked before. */
+/* Files what is new: the rows, then the settings, then the mark. Where the base is the one filed last, its rows are checked before. */
 static void file_news(const char *name, const Mark *old, const News *found)
 {
-    size_t start = 0, used = write_rows(found, &start), same = found->base == old->base ? (size_t)(old->end - old->begin) : 0;
+    size_t start = 0, used = write_rows(found, &start);
+    uint64_t begin = found->base == old->base ? old->begin : old->end;
+    size_t same = (size_t)(old->end - begin); /* so many bytes of this base's rows are filed */
     int csv = openat(folder, "changes.csv", O_RDWR | O_CREAT, 0666);
     if (csv < 0)
         stop(2, "changes.csv");
     if (size_of(csv, "changes.csv") < old->end)
         stop(1, "changes.csv ends before byte %" PRIu64 ", up to which the mark says that it is filed", old->end);
-    if (get(csv, filed, same, old->begin) != 0)
+    if (get(csv, filed, same, begin) != 0)
         stop(2, "changes.csv");
     if (start != same || memcmp(rows, filed, same) != 0)
         stop(1, "%s has other changes than those that were filed of the same base: another medium, or formatted since", name);
@@ -261,10 +265,9 @@ static void file_news(const char *name, const Mark *old, const News *found)
         stop(2, "changes.csv");
     close(csv);
     size_t set = file_settings();
-    uint64_t begin = found->base == old->base ? old->begin : old->end;
     Mark mark = {journal.length, found->base, found->serial, found->count, begin, begin + used};
     write_mark(&mark);
-    printf("%" PRIu64 " changes filed, %zu valves set\n", found->count - found->first, set);
+    printf("%zu changes filed, %zu valves set\n", found->count - found->first, set);
 }
 
 /* Commits, where there is something in the log: it is filed. */

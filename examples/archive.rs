@@ -1,4 +1,5 @@
-// The archive's morning, as `examples/archive.c` has it: the same arguments, files, exit statuses and rules. The two may take turns in one folder.
+// The archive's morning, as `examples/archive.c` has it: the same arguments, files, exit statuses and rules. The two may take turns in
+// one folder.
 //
 //   rt staticlib journal_c
 //   rustc --edition 2021 -O -L target/staticlib examples/archive.rs -o target/archive_rs
@@ -28,38 +29,42 @@ fn look<T>(message: String) -> Result<T, Stop> {
     Err(Stop::Look(message))
 }
 
-// What is filed: the medium's length; base, next serial and number of changes of the log filed last; where its rows begin and end.
+// Of a log that was filed: its base, the next serial then, and how many changes it had; zeros where nothing was filed since formatting.
+#[derive(Clone, Copy, Default)]
 struct Mark {
-    length: u64,
     base: u64,
     serial: u64,
-    count: u64,
+    count: usize,
+}
+
+// What is new in a log: the changes from number `first` on. And the mark of this log.
+struct News {
+    first: usize,
+    mark: Mark,
+}
+
+// The file `mark`: the medium's length, the mark of the log filed last, and from where to where its rows stand in changes.csv.
+struct Filed {
+    length: usize,
+    mark: Mark,
     begin: u64,
     end: u64,
 }
 
-impl Mark {
+impl Filed {
     fn text(&self) -> String {
-        let Mark { length, base, serial, count, begin, end } = self;
+        let Filed { length, mark: Mark { base, serial, count }, begin, end } = self;
         format!("length {length}\nbase {base}\nserial {serial}\nchanges {count}\nbegin {begin}\nend {end}\n")
     }
 
     // Just what `text` makes is a mark.
-    fn of(text: &[u8]) -> Option<Mark> {
+    fn of(text: &[u8]) -> Option<Filed> {
         let text = std::str::from_utf8(text).ok()?;
         let numbers: Option<Vec<u64>> = text.lines().map(|line| line.split_once(' ')?.1.parse().ok()).collect();
         let [length, base, serial, count, begin, end] = numbers?[..] else { return None };
-        let mark = Mark { length, base, serial, count, begin, end };
-        (mark.text() == text && begin <= end).then_some(mark)
+        let filed = Filed { length: length as usize, mark: Mark { base, serial, count: count as usize }, begin, end };
+        (filed.text() == text && begin <= end).then_some(filed)
     }
-}
-
-// What is new on a medium: the changes from number `first` on; and its base, its next serial and its number of changes.
-struct News {
-    first: u64,
-    base: u64,
-    serial: u64,
-    count: u64,
 }
 
 // Writes all the bytes from a place on, durably.
@@ -90,11 +95,11 @@ impl Folder {
         fs::rename(&temporary, &lasting).and_then(|()| self.file.sync_all()).map_err(failed(name))
     }
 
-    fn mark(&self) -> Result<Option<Mark>, Stop> {
+    fn filed(&self) -> Result<Option<Filed>, Stop> {
         match fs::read(self.path.join("mark")) {
             Err(error) if error.kind() == ErrorKind::NotFound => Ok(None),
             Err(error) => Err(failed("mark")(error)),
-            Ok(text) => Mark::of(&text).map(Some).ok_or(Stop::Look("the file mark is not a mark".into())),
+            Ok(text) => Filed::of(&text).map(Some).ok_or(Stop::Look("the file mark is not a mark".into())),
         }
     }
 
@@ -112,7 +117,8 @@ struct Chip {
 }
 
 impl Chip {
-    // Reads the chip and recovers. What is read was made durable before, also where the program was killed between a step's write and its fsync.
+    // Reads the chip and recovers. What is read was made durable before, also where the program was killed between a step's write and
+    // its fsync.
     fn open(name: &str) -> Result<Chip, Stop> {
         let file = File::options().read(true).write(true).open(name).map_err(failed(name))?;
         let length = file.metadata().map_err(failed(name))?.len();
@@ -143,12 +149,12 @@ impl Chip {
     }
 
     // What is new on the chip, unless it is not the medium that was filed.
-    fn news(&self, mark: &Mark) -> Result<News, Stop> {
+    fn news(&self, filed: &Filed) -> Result<News, Stop> {
         let (name, length) = (&self.name, self.medium.len());
-        if length as u64 != mark.length {
-            return look(format!("{name} has {length} bytes, and the medium that was filed {}: cut off, or another one", mark.length));
+        if length != filed.length {
+            return look(format!("{name} has {length} bytes, and the medium that was filed {}: cut off, or another one", filed.length));
         }
-        match news(&self.medium, mark.base, mark.serial, mark.count) {
+        match news(&self.medium, filed.mark) {
             Ok(found) => Ok(found),
             Err(28) => look(format!("{name} is of an earlier moment than the last filing, or another medium, or formatted since (28)")),
             Err(29) => look(format!("{name} is another medium than the one filed last, or formatted since (29)")),
@@ -173,51 +179,52 @@ impl Chip {
     }
 }
 
-// What is new on a medium, for an archive that filed so many changes of this base last, at this next serial. Refuses 1 to 6 as recovery does; 28 where
-// the medium is of an earlier moment than the filing, 29 where it is another one.
-fn news(medium: &[u8], base: u64, serial: u64, count: u64) -> Result<News, u8> {
+// What is new on a medium, for an archive that filed this mark last. Refuses 1 to 6 as recovery does; 28 where the medium is of an earlier
+// moment than the filing, 29 where it is another one.
+fn news(medium: &[u8], filed: Mark) -> Result<News, u8> {
     let head = recover(medium).map_err(|refusal| refusal as u8)?.head;
-    let now = changes(medium).map_err(|refusal| refusal as u8)?.count() as u64;
-    if head.serial < serial {
+    let count = changes(medium).map_err(|refusal| refusal as u8)?.count();
+    let goes_on = head.base == filed.base;
+    if head.serial < filed.serial {
         return Err(28);
     }
-    if if head.base == base { now < count } else { head.base < serial } {
+    if (goes_on && count < filed.count) || (!goes_on && head.base < filed.serial) {
         return Err(29);
     }
-    Ok(News { first: if head.base == base { count } else { 0 }, base: head.base, serial: head.serial, count: now })
+    Ok(News { first: if goes_on { filed.count } else { 0 }, mark: Mark { base: head.base, serial: head.serial, count } })
 }
 
-// Files what is new: first the rows, then the settings, then the mark. Where the base is the one filed last, its rows are checked before.
-fn file_news(folder: &Folder, chip: &Chip, old: &Mark, found: &News) -> Result<String, Stop> {
+// Files what is new: the rows, then the settings, then the mark. Where the base is the one filed last, its rows are checked before.
+fn file_news(folder: &Folder, chip: &Chip, old: &Filed, found: &News) -> Result<String, Stop> {
     let refused = |refusal: Refusal| Stop::Look(refusal.to_string());
     let rows = chip.rows().map_err(refused)?;
-    let (front, new) = rows.split_at(found.first as usize);
-    let (front, new, goes_on) = (front.concat(), new.concat(), found.base == old.base);
+    let (front, new) = rows.split_at(found.first);
+    let (front, new) = (front.concat(), new.concat());
     let csv = File::options().read(true).write(true).create(true).truncate(false).open(folder.changes()).map_err(failed("changes.csv"))?;
     if csv.metadata().map_err(failed("changes.csv"))?.len() < old.end {
         return look(format!("changes.csv ends before byte {}, up to which the mark says that it is filed", old.end));
     }
-    let mut filed = vec![0; if goes_on { (old.end - old.begin) as usize } else { 0 }];
-    csv.read_exact_at(&mut filed, old.begin).map_err(failed("changes.csv"))?;
+    let begin = if found.mark.base == old.mark.base { old.begin } else { old.end };
+    let mut filed = vec![0; (old.end - begin) as usize];
+    csv.read_exact_at(&mut filed, begin).map_err(failed("changes.csv"))?;
     if front.as_bytes() != filed {
-        return look(format!("{} has other changes than those that were filed of the same base: another medium, or formatted since", chip.name));
+        let why = "has other changes than those that were filed of the same base: another medium, or formatted since";
+        return look(format!("{} {why}", chip.name));
     }
     csv.set_len(old.end).and_then(|()| put(&csv, new.as_bytes(), old.end)).map_err(failed("changes.csv"))?;
     let (settings, set) = chip.settings().map_err(refused)?;
     folder.replace("settings.csv", &settings)?;
-    let begin = if goes_on { old.begin } else { old.end };
-    let (length, end) = (chip.medium.len() as u64, old.end + new.len() as u64);
-    let mark = Mark { length, base: found.base, serial: found.serial, count: found.count, begin, end };
-    folder.replace("mark", &mark.text())?;
-    Ok(format!("{} changes filed, {set} valves set\n", found.count - found.first))
+    let filed = Filed { length: chip.medium.len(), mark: found.mark, begin, end: old.end + new.len() as u64 };
+    folder.replace("mark", &filed.text())?;
+    Ok(format!("{} changes filed, {set} valves set\n", rows.len() - found.first))
 }
 
 // The morning.
 fn file_and_commit(folder: &Folder, chip: &mut Chip) -> Result<String, Stop> {
-    let Some(mark) = folder.mark()? else { return look("the folder has no mark: `archive new` starts one".into()) };
-    let found = chip.news(&mark)?;
-    let mut told = file_news(folder, chip, &mark, &found)?;
-    if found.count > 0 {
+    let Some(filed) = folder.filed()? else { return look("the folder has no mark: `archive new` starts one".into()) };
+    let found = chip.news(&filed)?;
+    let mut told = file_news(folder, chip, &filed, &found)?;
+    if found.mark.count > 0 {
         chip.commit()?;
         told += "committed\n";
     }
@@ -226,7 +233,7 @@ fn file_and_commit(folder: &Folder, chip: &mut Chip) -> Result<String, Stop> {
 
 // Starts a mark for the medium: none of its changes is filed.
 fn start_mark(folder: &Folder, chip: &Chip) -> Result<String, Stop> {
-    let old = folder.mark()?;
+    let old = folder.filed()?;
     let bytes = match fs::metadata(folder.changes()) {
         Err(error) if error.kind() != ErrorKind::NotFound => return Err(failed("changes.csv")(error)),
         about => about.map_or(0, |about| about.len()),
@@ -234,9 +241,9 @@ fn start_mark(folder: &Folder, chip: &Chip) -> Result<String, Stop> {
     if old.is_none() && bytes != 0 {
         return look("changes.csv has rows, and there is no mark that says how many are filed".into());
     }
-    let end = old.map_or(0, |mark| mark.end);
-    let mark = Mark { length: chip.medium.len() as u64, base: 0, serial: 0, count: 0, begin: end, end };
-    folder.replace("mark", &mark.text())?;
+    let end = old.map_or(0, |filed| filed.end);
+    let filed = Filed { length: chip.medium.len(), mark: Mark::default(), begin: end, end };
+    folder.replace("mark", &filed.text())?;
     Ok(format!("{}: a new mark\n", chip.name))
 }
 

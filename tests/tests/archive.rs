@@ -371,8 +371,8 @@ fn chip_with(blocks: usize, words: &[u64]) -> Vec<u8> {
     medium
 }
 
-/// A chip of 8 blocks and a folder in which its log at base 1 is filed, with rows
-/// for these changes of valve 7; no commit was begun.
+/// A chip of 8 blocks and a folder in which its log at base 1 is filed, at this next
+/// serial and with these rows; no commit was begun.
 fn filed(chip: Vec<u8>, serial: u64, rows: &str) -> Disk {
     let (changes, end) = (rows.lines().count(), rows.len());
     let of_log = format!("base 1\nserial {serial}\nchanges {changes}\nbegin 0\nend {end}\n");
@@ -384,30 +384,36 @@ fn filed(chip: Vec<u8>, serial: u64, rows: &str) -> Disk {
 
 /// Media that are not the one that was filed, or are of an earlier moment.
 fn other_media(program: &Program) -> Right {
-    let disk = filed(chip_with(8, &[10, 20, 30]), 5, "1,0,7,10\n1,1,7,20\n1,2,7,30\n");
+    let words: Vec<u64> = (10..22).collect();
+    let rows: String = (0..12).map(|n| format!("1,{n},7,{}\n", words[n])).collect();
+    let disk = filed(chip_with(8, &words), 14, &rows);
     ensure(program.run(&mut disk.clone(), false, "").status == Some(0), || "as filed".into())?;
     let with = |chip: Vec<u8>| {
         let mut disk = disk.clone();
         disk.set_chip(chip);
         disk
     };
-    looked_at(program, &with(chip_with(8, &[10, 20])), false, "(28)")?;
+    let with_word = |nth: usize, word: u64| {
+        let mut words = words.clone();
+        words[nth] = word;
+        with(chip_with(8, &words))
+    };
+    looked_at(program, &with(chip_with(8, &words[..11])), false, "(28)")?;
     looked_at(program, &with(chip_with(8, &[])), false, "(28)")?;
-    looked_at(program, &with(chip_with(8, &[10, 25, 30])), false, "other changes")?;
-    looked_at(program, &with(chip_with(8, &[10, 20, 35, 40])), false, "other changes")?;
-    looked_at(program, &with(chip_with(8, &[10, 20, 300])), false, "other changes")?;
-    looked_at(program, &with(chip_with(4, &[10, 20, 30])), false, "has 16384 bytes")?;
-    looked_at(program, &with(chip_with(9, &[10, 20, 30])), false, "has 36864 bytes")?;
+    looked_at(program, &with_word(0, 50), false, "other changes")?;
+    looked_at(program, &with_word(11, 50), false, "other changes")?;
+    looked_at(program, &with_word(11, 500), false, "other changes")?;
+    looked_at(program, &with(chip_with(4, &words)), false, "has 16384 bytes")?;
+    looked_at(program, &with(chip_with(9, &words)), false, "has 36864 bytes")?;
     looked_at(program, &with(disk.chip()[..16384].to_vec()), false, "has 16384 bytes")?;
     looked_at(program, &with(blank(8)), false, "no complete base")?;
     looked_at(program, &with(vec![0xFF; 4095]), false, "4 to 256")?;
     looked_at(program, &with(vec![0xFF; 257 * 4096]), false, "4 to 256")?;
     looked_at(program, &with(vec![]), true, "4 to 256")?;
-    // Commits of another medium: a base that is neither the one filed nor later.
+    // Another medium: its base is neither the one filed nor later than the filing.
     let (mut medium, mut state) = formatted(8);
     common::commit(&mut medium, &mut state);
-    common::commit(&mut medium, &mut state);
-    common::append(&mut medium, &mut state, &[(7, 10)]);
+    words.iter().for_each(|&word| drop(common::append(&mut medium, &mut state, &[(7, word)])));
     looked_at(program, &with(medium.clone()), false, "(29)")?;
     common::commit(&mut medium, &mut state);
     ensure(program.run(&mut with(medium), false, "").status == Some(0), || "a later base".into())
@@ -578,8 +584,7 @@ const WRONG_IN_C: [Wrong; 13] = [
     ]),
     ("the mark before the rows", "changes.csv ends", &[
         ("    if (ftruncate(csv,",
-         "    uint64_t from = found->base == old->base ? old->begin : old->end;
-    Mark early = {journal.length, found->base, found->serial, found->count, from, from + used};
+         "    Mark early = {journal.length, found->base, found->serial, found->count, begin, begin + used};
     write_mark(&early);
     if (ftruncate(csv,"),
     ]),
@@ -611,15 +616,14 @@ const WRONG_IN_C: [Wrong; 13] = [
 #[rustfmt::skip]
 const WRONG_IN_RUST: [Wrong; 13] = [
     ("filed after the commit", "the changes", &[
-        ("chip: &Chip, old: &Mark", "chip: &mut Chip, old: &Mark"),
-        ("    csv.set_len(old.end)", "    if found.count > 0 { chip.commit()?; }\n    csv.set_len(old.end)"),
+        ("chip: &Chip, old: &Filed", "chip: &mut Chip, old: &Filed"),
+        ("    csv.set_len(old.end)", "    if found.mark.count > 0 { chip.commit()?; }\n    csv.set_len(old.end)"),
         ("        chip.commit()?;\n", ""),
     ]),
     ("the mark before the rows", "changes.csv ends", &[
         ("    csv.set_len(old.end)",
-         "    let (begin, end) = (if goes_on { old.begin } else { old.end }, old.end + new.len() as u64);
-    let (base, serial, count) = (found.base, found.serial, found.count);
-    folder.replace(\"mark\", &Mark { length: old.length, base, serial, count, begin, end }.text())?;
+         "    let end = old.end + new.len() as u64;
+    folder.replace(\"mark\", &Filed { length: old.length, mark: found.mark, begin, end }.text())?;
     csv.set_len(old.end)"),
     ]),
     ("rows not durable", "the changes", &[("put(&csv, new.as_bytes(), old.end)", "csv.write_all_at(new.as_bytes(), old.end)")]),
@@ -630,12 +634,12 @@ const WRONG_IN_RUST: [Wrong; 13] = [
         ("fs::rename(&temporary, &lasting).and_then(|()| self.file.sync_all())", "self.file.sync_all()"),
     ]),
     ("front not checked", "other changes", &[("front.as_bytes() != filed", "front.len() != filed.len()")]),
-    ("count of an older base", "other changes", &[("first: if head.base == base { count } else { 0 }", "first: count.min(now)")]),
+    ("count of an older base", "other changes", &[("first: if goes_on { filed.count } else { 0 }", "first: filed.count.min(count)")]),
     ("rows behind the mark kept", "the changes", &[
         ("csv.set_len(old.end).and_then(|()| put(&csv, new.as_bytes(), old.end))",
          "csv.metadata().and_then(|about| put(&csv, new.as_bytes(), about.len()))"),
     ]),
-    ("length not compared", "bytes", &[("if length as u64 != mark.length", "if mark.length == 0")]),
+    ("length not compared", "bytes", &[("if length != filed.length", "if filed.length == 0")]),
     ("steps not durable", "the log", &[
         ("put(&self.file, &self.medium[bytes.clone()], bytes.start as u64)",
          "self.file.write_all_at(&self.medium[bytes.clone()], bytes.start as u64)"),
