@@ -219,14 +219,16 @@ static size_t write_rows(const News *found, size_t *start)
 {
     size_t used = 0;
     VjCount log = vj_log(journal.medium, journal.length, keys, CHANGES, words, CHANGES, groups, CHANGES);
-    for (size_t i = 0; i <= log.count; i++) {
+    if (log.number != VJ_ACCEPTED)
+        stop(1, "the log is refused with %u: %s", (unsigned)log.number, vj_refusal_text(log.number));
+    for (size_t i = 0; i < log.count; i++) {
         if (i == found->first)
             *start = used;
-        if (i == log.count)
-            break;
         used += (size_t)snprintf(rows + used, ROW, "%" PRIu64 ",%" PRIu32 ",%d,", found->base, groups[i], keys[i] & VJ_LAST_VALVE);
         used += (size_t)snprintf(rows + used, ROW, keys[i] < VJ_REMOVAL ? "%" PRIu64 "\n" : "\n", words[i]);
     }
+    if (found->first == log.count)
+        *start = used;
     return used;
 }
 
@@ -314,8 +316,10 @@ int main(int count, char **arguments)
     if (count != 3 + starts)
         return fputs("archive CHIP FOLDER files what is new; archive new CHIP FOLDER starts a mark\n", stderr), 2;
     const char *name = arguments[1 + starts], *place = arguments[2 + starts];
-    if ((folder = open(place, O_RDONLY | O_DIRECTORY)) < 0 || flock(folder, LOCK_EX | LOCK_NB) != 0)
+    if ((folder = open(place, O_RDONLY | O_DIRECTORY)) < 0)
         stop(2, "%s", place);
+    if (flock(folder, LOCK_EX | LOCK_NB) != 0)
+        stop(2, "%s is in use, or cannot be locked", place);
     if ((chip = open(name, O_RDWR)) < 0)
         stop(2, "%s", name);
     open_chip(name, size_of(chip, name));

@@ -83,7 +83,7 @@ impl Folder {
     // Locked as long as the program runs.
     fn open(name: &str) -> Result<Folder, Stop> {
         let file = File::open(name).map_err(failed(name))?;
-        file.try_lock().map_err(|error| failed(name)(error.into()))?;
+        file.try_lock().map_err(|error| failed(&format!("{name} is in use, or cannot be locked"))(error.into()))?;
         Ok(Folder { path: PathBuf::from(name), file })
     }
 

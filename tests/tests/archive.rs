@@ -69,50 +69,46 @@ fn run(command: &mut Command) {
     assert!(output.status.success(), "{}", String::from_utf8_lossy(&output.stderr));
 }
 
+/// Compiles the source in a folder to a program there, with `c/faults.c` between
+/// it and the system.
+fn compile(language: Language, built: &Path) {
+    let object = built.join("faults.o");
+    run(Command::new("cc").args(["-O1", "-c", "c/faults.c", "-o"]).arg(&object));
+    let wraps: String = WRAPPED.iter().map(|call| format!(",--wrap={call}")).collect();
+    let mut command = Command::new(if language == Language::C { "cc" } else { "rustc" });
+    if language == Language::C {
+        command.args(["-std=c99", "-O1", "-I../include"]).arg(built.join("archive.c"));
+        command.arg(object).arg("../target/staticlib/libjournal_c.a").arg(format!("-Wl{wraps}"));
+    } else {
+        command.args(["--edition", "2021", "-L../target/staticlib"]).arg(built.join("archive.rs"));
+        command.arg(format!("-Clink-arg={}", object.display()));
+        command.arg(format!("-Clink-arg=-Wl{wraps}"));
+    }
+    run(command.arg("-o").arg(built.join("archive")));
+}
+
 impl Program {
     /// The example of a language, with these parts of its text replaced.
     fn build(language: Language, name: &str, edits: &[(&str, &str)]) -> Program {
-        let root = Path::new(env!("CARGO_MANIFEST_DIR")).parent().expect("the project");
         let kind = format!("archive_{language:?}_{name}").to_lowercase().replace(' ', "_");
         let built = Path::new(env!("CARGO_TARGET_TMPDIR")).join(&kind);
         // In memory where that can be: thousands of small files are written.
         let memory = Some(Path::new("/dev/shm")).filter(|path| path.is_dir());
-        let home = memory
-            .map_or(built.clone(), |path| path.join(format!("{kind}_{}", std::process::id())));
+        let own = format!("{kind}_{}", std::process::id());
+        let home = memory.map_or(built.clone(), |path| path.join(own));
         fs::create_dir_all(&built).and_then(|()| fs::create_dir_all(&home)).expect("a folder");
-        let (path, object) = (built.join("archive"), built.join("faults.o"));
-        run(Command::new("cc").args(["-O1", "-c", "c/faults.c", "-o"]).arg(&object));
-        let wraps: String = WRAPPED.iter().map(|call| format!(",--wrap={call}")).collect();
         let extension = if language == Language::C { "c" } else { "rs" };
-        let example = root.join(format!("examples/archive.{extension}"));
+        let example = format!("../examples/archive.{extension}");
         let mut text = fs::read_to_string(example).expect("the example");
         for (old, new) in edits {
             assert_eq!(text.matches(old).count(), 1, "{name}: {old}");
             text = text.replace(old, new);
         }
-        let source = built.join(format!("archive.{extension}"));
-        let library = root.join("target/staticlib");
-        if language == Language::C {
-            fs::write(&source, text).expect("the source");
-            let mut command = Command::new("cc");
-            command.args(["-std=c99", "-O1", "-I../include"]).arg(source).arg(object);
-            run(command
-                .arg(library.join("libjournal_c.a"))
-                .arg(format!("-Wl{wraps}"))
-                .arg("-o")
-                .arg(&path));
-        } else {
-            let file = root.join("include/valve_journal.rs");
-            let text = text.replace("../include/valve_journal.rs", file.to_str().expect("a path"));
-            fs::write(&source, text).expect("the source");
-            let mut command = Command::new("rustc");
-            command.args(["--edition", "2021", "-L"]).arg(library).arg(source);
-            command
-                .arg(format!("-Clink-arg={}", object.display()))
-                .arg(format!("-Clink-arg=-Wl{wraps}"));
-            run(command.arg("-o").arg(&path));
-        }
-        Program { path, home }
+        let file = concat!(env!("CARGO_MANIFEST_DIR"), "/../include/valve_journal.rs");
+        let text = text.replace("../include/valve_journal.rs", file);
+        fs::write(built.join(format!("archive.{extension}")), text).expect("the source");
+        compile(language, &built);
+        Program { path: built.join("archive"), home }
     }
 
     /// Runs the program on a disk, with a fault or none.
@@ -247,13 +243,15 @@ impl Program {
 
 /// What becomes of data and of names that are not durable; none where the power
 /// stays, and the program alone is killed.
-const LOSSES: [Option<(Fate, Fate)>; 6] = [
+const LOSSES: [Option<(Fate, Fate)>; 8] = [
     None,
     Some((Fate::Lost, Fate::Lost)),
     Some((Fate::Lost, Fate::Kept)),
     Some((Fate::Kept, Fate::Lost)),
     Some((Fate::Kept, Fate::Kept)),
     Some((Fate::Chance, Fate::Chance)),
+    Some((Fate::Chance, Fate::Chance)),
+    Some((Fate::Chance, Fate::Kept)),
 ];
 
 /// Killed at a point of a morning, then run again with each loss; meanwhile groups
@@ -501,7 +499,8 @@ fn in_use(program: &Program, world: &World) -> Right {
         .env("TRACE", program.home.join("trace"))
         .output()
         .expect("the program");
-    ensure(output.status.code() == Some(2) && !output.stderr.is_empty(), || format!("{output:?}"))?;
+    let told = String::from_utf8_lossy(&output.stderr).contains("in use");
+    ensure(output.status.code() == Some(2) && told, || format!("{output:?}"))?;
     world.disk.check(&program.home);
     Ok(())
 }
@@ -559,6 +558,20 @@ fn the_program_in_rust() {
     verify(&Program::build(Language::Rust, "as it is", &[])).expect("every change once");
 }
 
+/// The two take turns in one folder, and each goes on where the other was killed.
+#[test]
+fn the_two_take_turns() {
+    let programs =
+        [Language::C, Language::Rust].map(|language| Program::build(language, "in turn", &[]));
+    let (mut world, mut random) = (programs[0].begin(12).expect("a mark"), Random::new(9));
+    for n in 1..30 {
+        world.control(&mut random, 2, 3);
+        programs[n % 2].run(&mut world.disk, false, &format!("die {n}"));
+        world.disk.power_fails(Fate::Chance, Fate::Chance, &mut random);
+        programs[(n + 1) % 2].finish(&mut world, &mut random).expect("every change once");
+    }
+}
+
 // ---------------------------------------------------------------------------
 // Wrong programs
 
@@ -610,7 +623,7 @@ const WRONG_IN_C: [Wrong; 13] = [
          "pwrite(chip, bytes, VJ_PAGE_BYTES, (off_t)(VJ_PAGE_BYTES * page)) < 0"),
     ]),
     ("chip not durable when read", "the log", &[("fsync(chip) != 0 ? -1 : get(", "get(")]),
-    ("folder not locked", "changes filed", &[(" || flock(folder, LOCK_EX | LOCK_NB) != 0", "")]),
+    ("folder not locked", "changes filed", &[("if (flock(folder, LOCK_EX | LOCK_NB) != 0)", "if (folder < 0)")]),
 ];
 
 #[rustfmt::skip]
@@ -647,7 +660,7 @@ const WRONG_IN_RUST: [Wrong; 13] = [
     ("chip not durable when read", "the log", &[
         ("file.sync_all().and_then(|()| file.read_exact_at(&mut medium, 0))", "file.read_exact_at(&mut medium, 0)"),
     ]),
-    ("folder not locked", "changes filed", &[("file.try_lock().map_err(|error| failed(name)(error.into()))?;", "")]),
+    ("folder not locked", "changes filed", &[("        file.try_lock()", "        Ok(()).map_err(|error: fs::TryLockError| error)")]),
 ];
 
 #[test]
