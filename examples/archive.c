@@ -266,7 +266,7 @@ static void file_news(const char *name, const Mark *old, const News *found)
     if (ftruncate(csv, (off_t)old->end) != 0 || put(csv, rows + start, used - start, old->end) != 0)
         stop(2, "changes.csv");
     close(csv);
-    size_t set = file_settings();
+    size_t set = file_settings(); /* the folder is synced here too: a changes.csv that is new is listed durably before the mark */
     Mark mark = {journal.length, found->base, found->serial, found->count, begin, begin + used};
     write_mark(&mark);
     printf("%zu changes filed, %zu valves set\n", found->count - found->first, set);

@@ -212,6 +212,7 @@ fn file_news(folder: &Folder, chip: &Chip, old: &Filed, found: &News) -> Result<
         return look(format!("{} {why}", chip.name));
     }
     csv.set_len(old.end).and_then(|()| put(&csv, new.as_bytes(), old.end)).map_err(failed("changes.csv"))?;
+    // The folder is synced here too: a changes.csv that is new is listed durably before the mark.
     let (settings, set) = chip.settings().map_err(refused)?;
     folder.replace("settings.csv", &settings)?;
     let filed = Filed { length: chip.medium.len(), mark: found.mark, begin, end: old.end + new.len() as u64 };

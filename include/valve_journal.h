@@ -416,9 +416,9 @@ VjBegun vj_format(const uint8_t *medium, size_t medium_length);
 VjBegun vj_append(const uint8_t *medium, size_t medium_length, VjState state, const uint8_t *buffer, size_t buffer_length,
     const uint16_t *keys, size_t keys_length, const uint64_t *words, size_t words_length);
 
-/* Begins a commit: a new base of the valves that are set. A finished commit empties the log, also of changes that nobody has filed. So it
- * is begun only where nothing was appended or flushed since the reading of the log that is filed durably. Where vj_append or vj_buffer answers 13, vj_next
- * names the commit or the collection that makes pages free. Refuses 1, 7, 8, 24, 13 and 14, in this order. */
+/* Begins a commit: a new base of the valves that are set. A finished commit empties the log, also of changes that nobody has filed. So it is
+ * begun only where nothing was appended or flushed since the reading of the log that is filed durably. Where vj_append or vj_buffer answers
+ * 13, vj_next names the commit or the collection that makes pages free. Refuses 1, 7, 8, 24, 13 and 14, in this order. */
 VjBegun vj_commit(const uint8_t *medium, size_t medium_length, VjState state, const uint8_t *buffer, size_t buffer_length);
 
 /* Begins the collection of a block, counted from 0: its live entries are moved, then it is erased. Refuses 1, 7, 8, 24, 15, 6 where a live

@@ -394,7 +394,8 @@ pub fn append(medium: &[u8], state: &mut State, buffer: &[u8], keys: &[u16], wor
     begun(unsafe { vj_append(m, ml, *state, b, bl, k, kl, w, wl) }, state)
 }
 
-/// Begins a commit. Finished, it empties the log, so it is begun only where nothing was appended or flushed since the reading that is filed.
+/// Begins a commit. Finished, it empties the log, so it is begun only where nothing was appended or flushed since the reading that is
+/// filed.
 pub fn commit(medium: &[u8], state: &mut State, buffer: &[u8]) -> Result<(), Refusal> {
     let (m, b) = (medium.as_ptr(), buffer.as_ptr());
     begun(unsafe { vj_commit(m, medium.len(), *state, b, buffer.len()) }, state)

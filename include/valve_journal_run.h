@@ -209,12 +209,12 @@ static inline uint8_t vj_run_flush(VjJournal *journal)
     return vj_run_finish(journal, &begun);
 }
 
-/* Appends a group of `count` entries as vj_run_append does, and makes room for it first where too few pages are available: the commits and collections
- * that vj_next names, each with all its steps. `filed` says that the log was read and is filed, and nothing appended since: only then is it emptied by a
- * commit. Where there is no room without that it answers 15 or 13: the caller files the log and calls again. With `filed` one commit and one collection
- * are enough where VJ_RESERVE_PAGES pages are available; where fewer are, see vj_next, it may answer 13: the caller makes the call once without it, which
- * may answer 15 after it has collected something, and then with it. Refuses as vj_next, and 13 after more operations than a medium has blocks; what
- * was done until then stays. */
+/* Appends a group of `count` entries as vj_run_append does, and makes room for it first where too few pages are available: the commits and
+ * collections that vj_next names, each with all its steps. `filed` says that the log was read and is filed, and nothing appended since: only
+ * then is it emptied by a commit. Where there is no room without that it answers 15 or 13: the caller files the log and calls again. With
+ * `filed` one commit and one collection are enough where VJ_RESERVE_PAGES pages are available; where fewer are, see vj_next, it may answer
+ * 13: the caller makes the call once without it, which may answer 15 after it has collected something, and then with it. Refuses as vj_next,
+ * and 13 after more operations than a medium has blocks; what was done until then stays. */
 static inline uint8_t vj_run_write(VjJournal *journal, const uint16_t *keys, const uint64_t *words, size_t count, bool filed)
 {
     unsigned turns;
