@@ -1,5 +1,6 @@
 /* Formats a chip of 4 blocks, appends the groups {5 -> 1000, 7 -> 20} and {remove 5}; then, as on the morning after a power cut, opens the journal,
- * reads the log and the settings, commits, and collects the block that the picker names. The driver prints each step.
+ * reads the log and the settings, which an archive files now, commits, and collects the block that the picker names.
+ * The driver prints each step.
  *
  *   rt staticlib journal_c
  *   cc -std=c99 -Wall -Wextra -I include examples/journal.c target/staticlib/libjournal_c.a -o target/journal_c

@@ -1,5 +1,6 @@
 // Formats a medium of 4 blocks, appends the groups {5 -> 1000, 7 -> 20} and {remove 5}; then, as on the morning after a power cut, recovers,
-// reads the log and the settings, commits, and collects the block that the picker names. Prints what each step touched.
+// reads the log and the settings, which an archive files now, commits, and collects the block that the picker names.
+// Prints what each step touched.
 //
 //   rt staticlib journal_c
 //   rustc --edition 2021 -O -L target/staticlib examples/journal.rs -o target/journal_rs

@@ -390,20 +390,20 @@ VjWordPlace vj_word(const uint8_t *medium, size_t medium_length, VjState state, 
 VjWanted vj_wanted(const uint8_t *medium, size_t medium_length, VjState state, const VjRecord *records, size_t records_length);
 
 /* Names the next operation of a box that keeps itself able to write; it begins nothing. The group, given as to vj_append, is the one that the caller
- * would append, and `read` says whether the log has been read, so that a commit may empty it. Named is
+ * would append, and `filed` says whether every change in the log is filed, so that a commit may empty it. Named is
  *   - the append of the group, unless vj_append would answer 13;
- *   - else a commit, where a whole page is newer than the base and the log has been read;
+ *   - else a commit, where a whole page is newer than the base and the log is filed;
  *   - else the collection of the block that vj_pick names.
  * The caller makes the call named and its steps, and asks again, until the append is named. Refuses as the call that it names, so that a call named is
  * accepted, and 15 where a collection is due and vj_pick names no block. 24 comes before all that: a buffer that holds a group is flushed first.
  *
- * Where vj_append answers 13 with VJ_RESERVE_PAGES pages or more available, nothing pending, the buffer empty, 16 serials left and the log read, at
+ * Where vj_append answers 13 with VJ_RESERVE_PAGES pages or more available, nothing pending, the buffer empty, 16 serials left and the log filed, at
  * most one commit and one collection are named, and then the append of that same group, whatever the number of blocks. A finished append leaves as
  * many pages. Fewer can be available after a power cut, or after commits that were not named. Then the commit that is due may answer 13, and goes on
- * answering it, though a block could be collected without any page: say `read` false, and the collection is named in its place; with the pages that
+ * answering it, though a block could be collected without any page: say `filed` false, and the collection is named in its place; with the pages that
  * it frees, say true again. Where no block can be collected either, the journal can only be read or formatted. */
 VjNext vj_next(const uint8_t *medium, size_t medium_length, VjState state, const uint8_t *buffer, size_t buffer_length, const uint16_t *keys,
-    size_t keys_length, const uint64_t *words, size_t words_length, bool read);
+    size_t keys_length, const uint64_t *words, size_t words_length, bool filed);
 
 /* The next five calls begin an operation. The medium stays as it is: vj_step does the work. */
 
@@ -416,8 +416,9 @@ VjBegun vj_format(const uint8_t *medium, size_t medium_length);
 VjBegun vj_append(const uint8_t *medium, size_t medium_length, VjState state, const uint8_t *buffer, size_t buffer_length,
     const uint16_t *keys, size_t keys_length, const uint64_t *words, size_t words_length);
 
-/* Begins a commit: a new base of the valves that are set. A finished commit empties the log, also of changes that nobody has read: vj_log comes
- * first. Where vj_append or vj_buffer answers 13, vj_next names the commit or the collection that makes pages free. Refuses 1, 7, 8, 24, 13 and 14, in this order. */
+/* Begins a commit: a new base of the valves that are set. A finished commit empties the log, also of changes that nobody has filed. So it is
+ * begun only where nothing was appended or flushed since the reading of the log that is filed durably. Where vj_append or vj_buffer answers
+ * 13, vj_next names the commit or the collection that makes pages free. Refuses 1, 7, 8, 24, 13 and 14, in this order. */
 VjBegun vj_commit(const uint8_t *medium, size_t medium_length, VjState state, const uint8_t *buffer, size_t buffer_length);
 
 /* Begins the collection of a block, counted from 0: its live entries are moved, then it is erased. Refuses 1, 7, 8, 24, 15, 6 where a live

@@ -366,12 +366,12 @@ pub enum Operation {
     Collect(usize),
 }
 
-/// Names the next operation of a box that keeps itself able to write, where the group of these keys and words is to be appended; `read` is whether
-/// the log has been read. It begins nothing: make the call named and its steps, and ask again, until the append is named.
-pub fn next(medium: &[u8], state: &State, buffer: &[u8], keys: &[u16], words: &[u64], read: bool) -> Result<Operation, Refusal> {
+/// Names the next operation of a box that keeps itself able to write, where the group of these keys and words is to be appended; `filed` is whether
+/// every change in the log is filed. It begins nothing: make the call named and its steps, and ask again, until the append is named.
+pub fn next(medium: &[u8], state: &State, buffer: &[u8], keys: &[u16], words: &[u64], filed: bool) -> Result<Operation, Refusal> {
     let (m, b, k, w) = (medium.as_ptr(), buffer.as_ptr(), keys.as_ptr(), words.as_ptr());
     let (ml, bl, kl, wl) = (medium.len(), buffer.len(), keys.len(), words.len());
-    let r = unsafe { vj_next(m, ml, *state, b, bl, k, kl, w, wl, read) };
+    let r = unsafe { vj_next(m, ml, *state, b, bl, k, kl, w, wl, filed) };
     match (r.number, r.operation, r.block) {
         (0, APPEND, 0) => Ok(Operation::Append),
         (0, COMMIT, 0) => Ok(Operation::Commit),
@@ -394,7 +394,8 @@ pub fn append(medium: &[u8], state: &mut State, buffer: &[u8], keys: &[u16], wor
     begun(unsafe { vj_append(m, ml, *state, b, bl, k, kl, w, wl) }, state)
 }
 
-/// Begins a commit. Finished, it empties the log: read that first.
+/// Begins a commit. Finished, it empties the log, so it is begun only where nothing was appended or flushed since the reading that is
+/// filed.
 pub fn commit(medium: &[u8], state: &mut State, buffer: &[u8]) -> Result<(), Refusal> {
     let (m, b) = (medium.as_ptr(), buffer.as_ptr());
     begun(unsafe { vj_commit(m, medium.len(), *state, b, buffer.len()) }, state)
@@ -571,7 +572,7 @@ extern "C" {
     fn vj_available(m: *const u8, ml: usize, state: State) -> VjPages;
     fn vj_word(m: *const u8, ml: usize, state: State, b: *const u8, bl: usize, valve: u16) -> VjWordPlace;
     fn vj_wanted(m: *const u8, ml: usize, state: State, records: *const Record, rl: usize) -> VjWanted;
-    fn vj_next(m: *const u8, ml: usize, state: State, b: *const u8, bl: usize, keys: *const u16, kl: usize, words: *const u64, wl: usize, read: bool) -> VjNext;
+    fn vj_next(m: *const u8, ml: usize, state: State, b: *const u8, bl: usize, keys: *const u16, kl: usize, words: *const u64, wl: usize, filed: bool) -> VjNext;
     fn vj_format(m: *const u8, ml: usize) -> VjBegun;
     fn vj_append(m: *const u8, ml: usize, state: State, b: *const u8, bl: usize, keys: *const u16, kl: usize, words: *const u64, wl: usize) -> VjBegun;
     fn vj_commit(m: *const u8, ml: usize, state: State, b: *const u8, bl: usize) -> VjBegun;

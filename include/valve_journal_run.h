@@ -170,7 +170,7 @@ static inline uint8_t vj_run_append(VjJournal *journal, const uint16_t *keys, co
     return vj_run_finish(journal, &begun);
 }
 
-/* Commits: the log is empty then, so it is read before. Refuses as vj_commit. */
+/* Commits: the log is empty then, so it is filed before, and nothing is appended or flushed in between. Refuses as vj_commit. */
 static inline uint8_t vj_run_commit(VjJournal *journal)
 {
     VjBegun begun;
@@ -209,20 +209,20 @@ static inline uint8_t vj_run_flush(VjJournal *journal)
     return vj_run_finish(journal, &begun);
 }
 
-/* Appends a group of `count` entries as vj_run_append does, and makes room for it first where too few pages are available: the commits and collections
- * that vj_next names, each with all its steps. `read` says that the log was read, and nothing appended since: only then is it emptied by a commit. Where
- * there is no room without that it answers 15 or 13: the caller reads the log and calls again. With `read` one commit and one collection are enough
- * where VJ_RESERVE_PAGES pages are available; where fewer are, see vj_next, it may answer 13: the caller makes the call once without `read`, which
- * may answer 15 after it has collected something, and then with it. Refuses as vj_next, and 13 after more operations than a medium has blocks; what
- * was done until then stays. */
-static inline uint8_t vj_run_write(VjJournal *journal, const uint16_t *keys, const uint64_t *words, size_t count, bool read)
+/* Appends a group of `count` entries as vj_run_append does, and makes room for it first where too few pages are available: the commits and
+ * collections that vj_next names, each with all its steps. `filed` says that the log was read and is filed, and nothing appended since: only
+ * then is it emptied by a commit. Where there is no room without that it answers 15 or 13: the caller files the log and calls again. With
+ * `filed` one commit and one collection are enough where VJ_RESERVE_PAGES pages are available; where fewer are, see vj_next, it may answer
+ * 13: the caller makes the call once without it, which may answer 15 after it has collected something, and then with it. Refuses as vj_next,
+ * and 13 after more operations than a medium has blocks; what was done until then stays. */
+static inline uint8_t vj_run_write(VjJournal *journal, const uint16_t *keys, const uint64_t *words, size_t count, bool filed)
 {
     unsigned turns;
     if (!vj_run_is_open(journal))
         return VJ_RUN_NOT_OPEN;
     for (turns = 0; turns <= VJ_MOST_BLOCKS; turns++) {
         uint8_t number;
-        VjNext next = vj_next(journal->medium, journal->length, journal->state, journal->buffer, sizeof journal->buffer, keys, count, words, count, read);
+        VjNext next = vj_next(journal->medium, journal->length, journal->state, journal->buffer, sizeof journal->buffer, keys, count, words, count, filed);
         if (next.number != VJ_ACCEPTED)
             return next.number;
         if (next.operation == VJ_APPEND)

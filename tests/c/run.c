@@ -12,7 +12,7 @@ void test_run_init(VjJournal *journal, uint8_t *medium, size_t length, const VjD
 uint8_t test_run_open(VjJournal *journal);
 uint8_t test_run_format(VjJournal *journal);
 uint8_t test_run_append(VjJournal *journal, const uint16_t *keys, const uint64_t *words, size_t count);
-uint8_t test_run_write(VjJournal *journal, const uint16_t *keys, const uint64_t *words, size_t count, bool read);
+uint8_t test_run_write(VjJournal *journal, const uint16_t *keys, const uint64_t *words, size_t count, bool filed);
 uint8_t test_run_commit(VjJournal *journal);
 uint8_t test_run_collect(VjJournal *journal, uint64_t block);
 uint8_t test_run_buffer(VjJournal *journal, const uint16_t *keys, const uint64_t *words, size_t count);
@@ -48,9 +48,9 @@ uint8_t test_run_append(VjJournal *journal, const uint16_t *keys, const uint64_t
     return vj_run_append(journal, keys, words, count);
 }
 
-uint8_t test_run_write(VjJournal *journal, const uint16_t *keys, const uint64_t *words, size_t count, bool read)
+uint8_t test_run_write(VjJournal *journal, const uint16_t *keys, const uint64_t *words, size_t count, bool filed)
 {
-    return vj_run_write(journal, keys, words, count, read);
+    return vj_run_write(journal, keys, words, count, filed);
 }
 
 uint8_t test_run_commit(VjJournal *journal)

@@ -9,6 +9,7 @@
 //! * [`history`]: the plain history that recovery is held to; [`fading`]: each
 //!   moment of it, and media whose bits fade.
 //! * [`before`]: pages that set valve 0, written by hand.
+//! * [`disk`]: files on a disk, and what a power failure leaves of them.
 //! * [`grown`]: journals of many blocks, written for long.
 //! * [`logs`]: logs and media made for the readings of the log.
 //! * [`random`]: media, lists of calls, cuts and damage made by chance, always
@@ -30,6 +31,7 @@
 pub mod before;
 pub mod calls;
 pub mod corners;
+pub mod disk;
 pub mod dispatcher;
 pub mod effects;
 pub mod fading;

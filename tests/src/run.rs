@@ -112,7 +112,7 @@ extern "C" {
         keys: *const u16,
         words: *const u64,
         count: usize,
-        read: bool,
+        filed: bool,
     ) -> u8;
     fn test_run_commit(journal: *mut VjJournal) -> u8;
     fn test_run_collect(journal: *mut VjJournal, block: u64) -> u8;
@@ -210,10 +210,10 @@ impl Journal {
         unsafe { test_run_append(self.lent(), keys.as_ptr(), words.as_ptr(), keys.len()) }
     }
 
-    /// With the housekeeping that it takes; `read`: the log has been read.
-    pub fn write(&mut self, keys: &[u16], words: &[u64], read: bool) -> u8 {
+    /// With the housekeeping that it takes; `filed`: the log has been filed.
+    pub fn write(&mut self, keys: &[u16], words: &[u64], filed: bool) -> u8 {
         assert_eq!(keys.len(), words.len());
-        unsafe { test_run_write(self.lent(), keys.as_ptr(), words.as_ptr(), keys.len(), read) }
+        unsafe { test_run_write(self.lent(), keys.as_ptr(), words.as_ptr(), keys.len(), filed) }
     }
 
     pub fn commit(&mut self) -> u8 {

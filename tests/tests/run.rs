@@ -296,7 +296,7 @@ fn log_length(journal: &Journal) -> usize {
     replay.log().iter().map(Vec::len).sum()
 }
 
-/// Writes a group; where there is no room without it the log is read, and its
+/// Writes a group; where there is no room without it the log is filed, and its
 /// length handed back.
 fn write(journal: &mut Journal, keys: &[u16], words: &[u64]) -> Option<usize> {
     match journal.write(keys, words, false) {
@@ -311,7 +311,7 @@ fn write(journal: &mut Journal, keys: &[u16], words: &[u64]) -> Option<usize> {
 }
 
 /// A box keeps itself able to write: thousands of groups go to few blocks, every
-/// change is read once, and the valves open as they were set last.
+/// change is filed once, and the valves open as they were set last.
 #[test]
 fn a_box_keeps_itself_able_to_write() {
     for blocks in [4, 5, 16] {
@@ -334,7 +334,7 @@ fn a_box_keeps_itself_able_to_write() {
 
 /// A driver that fails inside the housekeeping, or inside the append: the journal
 /// is opened again, and has the group whole or not at all. Where it has not, the
-/// group is written then; where no page is left for a commit, saying 'not read'
+/// group is written then; where no page is left for a commit, saying 'not filed'
 /// gets out, unless no block can be collected.
 #[test]
 fn a_write_that_fails() {
