@@ -14,9 +14,9 @@ use Rattle.index.specs.Index.{put, remove, assign, assignAll}
 use Rattle.nodes.specs.Nodes.{wordAt}
 use Rattle.valve_log.specs.History.{UnderWay, nothing, appending, committing, collecting, flushing, History, start as noHistory, Told, unchanged}
 use Rattle.valve_log.specs.History.{beganAppend, beganCommit, beganCollect, putIn, beganFlush, steppedPage, steppedBlock, recovery, assignGroups, counted, tell}
-use Rattle.valve_log.specs.Reached.{World, happen, Reached, Words}
-use Rattle.fading.specs.Fading.{AtOrBefore, now, earlier, NoMixture}
-use Rattle.fading.specs.Made.{groupsFinished, groupsCounting, groupsMade, ShownAsMade, OrderOccurred, StandsIn, first, later, ChangeMade, NoChangeInvented}
+use Rattle.valve_log.specs.Reached.{World, happen, happened, Before, switchedOff, Reached, Words}
+use Rattle.fading.specs.Fading.{AtOrBefore, now, earlier, older, NoMixture}
+use Rattle.fading.specs.Made.{groupsFinished, groupsCounting, groupsMadeBefore, groupsMade, ShownAsMade, OrderOccurred, StandsIn, first, later, ChangeMade, NoChangeInvented}
 use Rattle.fading.proofs.Fading.{no-mixture}
 
 -- ---- a history beside the groups made
@@ -83,10 +83,16 @@ pub start-tallied : Tallied [] noHistory
 unfolding assignGroups
 start-tallied = record { before = []; ends = refl; sets = refl }
 
+pub before-tallied : (w : World) (h : History) (b : Before w h) → Tallied (groupsMadeBefore b) h
+unfolding groupsMadeBefore
+before-tallied w h (Before.start v F e) = start-tallied
+before-tallied w h (Before.next v g e b) = tell-tallied (groupsMadeBefore b) g (before-tallied v g b) (happened v e .told)
+
 reached-tallied : (w : World) (h : History) (r : Reached w h) → Tallied (groupsMade r) h
 unfolding groupsMade
 reached-tallied w h (Reached.start v F e) = start-tallied
 reached-tallied w h (Reached.next v g e r) = tell-tallied (groupsMade r) g (reached-tallied v g r) (happen v e .told)
+reached-tallied w h (Reached.takenOver {w = v} {h = g} b) = before-tallied v g b
 
 -- what was made up to a moment is the first part of what was made since
 pub record MadeSince (then made : List (List Entry)) : Type 0 where
@@ -100,9 +106,11 @@ pub more-since : {then made : List (List Entry)} (new : List (List Entry)) → M
 more-since {then} new S = record { after = S .after ++ new; is = ap (λ (x : List (List Entry)). x ++ new) (S .is) ∙ append-assoc then (S .after) new }
 
 made-since : {v : World} {g : History} (q : Reached v g) (w : World) (h : History) (r : Reached w h) → AtOrBefore q w h r → MadeSince (groupsMade q) (groupsMade r)
-unfolding groupsMade
+unfolding groupsMade groupsMadeBefore
 made-since q w h r now = none-since (groupsMade q)
 made-since q w h r (earlier {w = w′} {h = h′} {r = r′} e p) = more-since (groupsCounting h′ (happen w′ e .told)) (made-since q w′ h′ r′ p)
+made-since q w h r (older {w = w′} {h = h′} {b = b} e p) =
+    more-since (groupsCounting h′ (happened w′ e .told)) (made-since q (switchedOff w′) h′ (Reached.takenOver b) p)
 
 -- the log of that moment among all that was made since, and its settings
 module _ {then made : List (List Entry)} {g : History} (T : Tallied then g) (S : MadeSince then made) where

@@ -17,17 +17,20 @@ use Rattle.flash.specs.Cuts.{CutProgram, CutErase}
 use Rattle.flash.proofs.Laws.{length-views, clean-in}
 use Rattle.flash.proofs.Steps.{seen-set, seen-set-other, program-length, program-views, erase-length}
 use Rattle.flash.proofs.Cuts.{CutViews, cut-program-views, cut-erase-views}
-use Rattle.state.specs.State.{Held}
+use Rattle.state.specs.State.{Held, bufferedIn}
 use Rattle.recovery.specs.Recovery.{Recovery}
 use Rattle.step.specs.Step.{Step, stepOf, mediumAfter}
 use Rattle.valve_log.specs.History.{History, Told}
-use Rattle.valve_log.specs.Reached.{World, world, withState, stepDue, CutOf, Event, called, filled, stepped, cutShort, recovered, happen, finishes, Formatting, Reached}
+use Rattle.valve_log.specs.Reached.{World, world, withState, stepDue, CutOf, Event, called, filled, stepped, cutShort, recovered, happen, finishes, Formatting}
+use Rattle.valve_log.specs.Reached.{stepDueBefore, Earlier, happened, Before, switchedOff, Reached}
+use Rattle.valve_log.specs.ValveZero.{stepBefore}
 use Rattle.valve_log.proofs.Views.{clean-is}
 use Rattle.valve_log.proofs.Due.{Programs, Erases, Good}
 use Rattle.valve_log.proofs.Events.{Upheld, there, others, erase-cut, due-good}
 use Rattle.valve_log.proofs.Formats.{in-format, starts, basePage}
+use Rattle.valve_log.proofs.ValveZero.{due-before, before-upheld}
 use Rattle.valve_log.proofs.Point3.{reached-upheld}
-use Rattle.fading.specs.Fading.{AtOrBefore, now, earlier, MomentOf}
+use Rattle.fading.specs.Fading.{AtOrBefore, now, earlier, older, MomentOf}
 use Rattle.fading.proofs.Serials.{KeepsHead, step-keeps, serial-of, all-stand}
 use Rattle.fading.proofs.Standing.{nextSerial, below-next, next-most}
 
@@ -166,12 +169,37 @@ happen-change m (some s) bs h (Event.buffer ks ws a b) U = no-change m _ (filled
 happen-change m none bs h Event.flush U = no-change m m refl
 happen-change m (some s) bs h Event.flush U = no-change m _ (called-medium (world m (some s) bs) _ _)
 happen-change m none bs h Event.step U = unfold stepped in no-change m m refl
-happen-change m (some s) bs h Event.step U = step-change m s bs h U (stepOf (length m) (views m) s bs) (due-good m s bs h U) (step-keeps (length m) (views m) s bs)
+happen-change m (some s) bs h Event.step U =
+    step-change m s bs h U (stepOf (length m) (views m) s bs) (due-good m s bs h U) (unfold stepOf in step-keeps _ (views m) s (bufferedIn bs))
 happen-change m s bs h Event.recover U = no-change m _ (recovered-medium (world m s bs) _)
 happen-change m s bs h Event.read U = no-change m m refl
 happen-change m s bs h Event.cut U = no-change m m refl
 happen-change m none bs h (Event.cutInside left c) U = absurd (unfold CutOf in c)
-happen-change m (some s) bs h (Event.cutInside left c) U = cut-change m s bs h U (stepOf (length m) (views m) s bs) (due-good m s bs h U) (step-keeps (length m) (views m) s bs) left c
+happen-change m (some s) bs h (Event.cutInside left c) U =
+    cut-change m s bs h U (stepOf (length m) (views m) s bs) (due-good m s bs h U) (unfold stepOf in step-keeps _ (views m) s (bufferedIn bs)) left c
+
+-- and so an event of the program before Paper 8
+happened-change : (m : List ℕ) (s : Option Held) (bs : List ℕ) (h : History) (e : Earlier (world m s bs)) → Upheld (world m s bs) h
+    → PageChange m (happened (world m s bs) e .after .medium)
+unfolding happened withState stepDueBefore
+happened-change m s bs h (Earlier.same e) U = happen-change m s bs h e U
+happened-change m none bs h (Earlier.append ks ws a b) U = no-change m m refl
+happened-change m (some s) bs h (Earlier.append ks ws a b) U = no-change m _ (called-medium (world m (some s) bs) _ _)
+happened-change m none bs h (Earlier.buffer ks ws a b) U = no-change m m refl
+happened-change m (some s) bs h (Earlier.buffer ks ws a b) U = no-change m _ (filled-medium (world m (some s) bs) _ _)
+happened-change m none bs h Earlier.flush U = no-change m m refl
+happened-change m (some s) bs h Earlier.flush U = no-change m _ (called-medium (world m (some s) bs) _ _)
+happened-change m none bs h Earlier.step U = unfold stepped in no-change m m refl
+happened-change m (some s) bs h Earlier.step U =
+    step-change m s bs h U (stepBefore (length m) (views m) s bs) (due-before m s bs h U)
+    (unfold stepBefore in step-keeps _ (views m) s (bufferedIn bs))
+happened-change m none bs h (Earlier.cutInside left c) U = absurd (unfold CutOf in c)
+happened-change m (some s) bs h (Earlier.cutInside left c) U =
+    cut-change m s bs h U (stepBefore (length m) (views m) s bs) (due-before m s bs h U)
+    (unfold stepBefore in step-keeps _ (views m) s (bufferedIn bs)) left c
+
+pub changed-before : (w : World) (h : History) (e : Earlier w) → Before w h → PageChange (w .medium) (happened w e .after .medium)
+changed-before w h e b = happened-change (w .medium) (w .state) (w .buffer) h e (before-upheld w h b)
 
 -- the next serial rises by at most one
 pub rise : (m u : List ℕ) → PageChange m u → nextSerial (views u) ≤ suc (nextSerial (views m))
@@ -252,14 +280,27 @@ now-of {w} {h} r = record { world = w; history = h; reached = r; passed = now }
 abbrev onward-of : {w : World} {h : History} (r : Reached w h) (e : Event w) → MomentOf r → MomentOf (Reached.next w h e r)
 onward-of r e t = record { world = t .world; history = t .history; reached = t .reached; passed = earlier e (t .passed) }
 
+abbrev older-of : {w : World} {h : History} (b : Before w h) (e : Earlier w) → MomentOf (Reached.takenOver b)
+    → MomentOf (Reached.takenOver (Before.next w h e b))
+older-of b e t = record { world = t .world; history = t .history; reached = t .reached; passed = older e (t .passed) }
+
 abbrev pub mediumThen : {w : World} {h : History} (r : Reached w h) → MomentOf r → List ℕ
 mediumThen r t = t .world .medium
 
 -- a list has passed a moment at which the next serial was n
+moment-before : (w : World) (h : History) (b : Before w h) (n : ℕ) → 2 ≤ n → n ≤ nextSerial (views (w .medium))
+    → AtSerial (MomentOf (Reached.takenOver b)) (mediumThen (Reached.takenOver b)) (w .medium) n
+moment-before w h (Before.start v F f) n lo hi =
+    at-now (now-of (Reached.takenOver (Before.start v F f))) n (let b = start-next v F f in omega arith)
+moment-before w h (Before.next v g e b) n lo hi =
+    at-next (v .medium) (now-of (Reached.takenOver (Before.next v g e b))) (older-of b e) (λ x. refl) (changed-before v g e b) n
+    (λ k. moment-before v g b n lo k) hi
+
 pub moment-of : (w : World) (h : History) (r : Reached w h) (n : ℕ) → 2 ≤ n → n ≤ nextSerial (views (w .medium)) → AtSerial (MomentOf r) (mediumThen r) (w .medium) n
 moment-of w h (Reached.start v F f) n lo hi = at-now (now-of (Reached.start v F f)) n (let b = start-next v F f in omega arith)
 moment-of w h (Reached.next v g e r) n lo hi =
     at-next (v .medium) (now-of (Reached.next v g e r)) (onward-of r e) (λ x. refl) (happen-change (v .medium) (v .state) (v .buffer) g e (reached-upheld v g r)) n (λ k. moment-of v g r n lo k) hi
+moment-of w h (Reached.takenOver {w = v} {h = g} b) n lo hi = moment-before v g b n lo hi
 
 -- ---- from a moment on
 
@@ -267,6 +308,9 @@ pub along : {v : World} {g : History} (q : Reached v g) (w : World) (h : History
 along {v} q w h r now = along-now (v .medium)
 along {v} q w h r (earlier {w = w′} {h = h′} {r = r′} e p) =
     along-next (v .medium) (w′ .medium) (happen w′ e .after .medium) (happen-change (w′ .medium) (w′ .state) (w′ .buffer) h′ e (reached-upheld w′ h′ r′)) (along q w′ h′ r′ p)
+along {v} q w h r (older {w = w′} {h = h′} {b = b} e p) =
+    along-next (v .medium) (w′ .medium) (happened w′ e .after .medium) (changed-before w′ h′ e b)
+    (along q (switchedOff w′) h′ (Reached.takenOver b) p)
 
 -- a moment at which the list had passed the moment q
 pub record From {v : World} {g : History} (q : Reached v g) (w : World) (h : History) (r : Reached w h) : Type 0 where
@@ -283,3 +327,8 @@ moment-from q w h r (earlier {w = w′} {h = h′} {r = r′} e p) n lo hi =
     at-next {f = mediumFrom q w′ h′ r′} {g = mediumFrom q w h r} (w′ .medium) (record { moment = now-of (Reached.next w′ h′ e r′); passed = earlier e p })
     (λ t. record { moment = onward-of r′ e (t .moment); passed = t .passed }) (λ t. refl) (happen-change (w′ .medium) (w′ .state) (w′ .buffer) h′ e (reached-upheld w′ h′ r′)) n
     (λ k. moment-from q w′ h′ r′ p n lo k) hi
+moment-from q w h r (older {w = w′} {h = h′} {b = b} e p) n lo hi =
+    at-next {f = mediumFrom q (switchedOff w′) h′ (Reached.takenOver b)} {g = mediumFrom q w h r} (w′ .medium)
+    (record { moment = now-of (Reached.takenOver (Before.next w′ h′ e b)); passed = older e p })
+    (λ t. record { moment = older-of b e (t .moment); passed = t .passed }) (λ t. refl) (changed-before w′ h′ e b) n
+    (λ k. moment-from q (switchedOff w′) h′ (Reached.takenOver b) p n lo k) hi

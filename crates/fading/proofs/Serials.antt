@@ -6,13 +6,13 @@ use mathlib.Core.List.{List, [], _∷_}
 use Prim.Native.Nat.{ℕ, _≤_}
 use native.Mathlib.Decide.{ℕ-discrete}
 use lib.Dec.{ltb}
-use Rattle.lists.specs.Needs.{Answer, refused, gives}
+use Rattle.lists.specs.Needs.{Answer, refused, gives, Need, under}
 use Rattle.lists.specs.Cells.{Entry, Place}
 use Rattle.lists.proofs.Laws.{by-cases, checked-cases}
 use Rattle.page.specs.Pages.{Page, View, clean, whole, isWhole}
 use Rattle.flash.specs.Medium.{seen}
-use Rattle.state.specs.State.{Pending, idle, append, commit, collect, format, flush, unnamed, Held, bufferedIn}
-use Rattle.step.specs.Step.{Step, erasing, programming, appendStep, commitStep, moveStep, collectStep, formatStep, flushStep, due, stepOf}
+use Rattle.state.specs.State.{Pending, idle, append, commit, collect, format, flush, unnamed, Held}
+use Rattle.step.specs.Step.{Step, erasing, programming, appendStep, commitStep, moveStep, collectStep, formatStep, flushStep, due, erasedFirst}
 use Rattle.step.proofs.Laws.{first-cases}
 use Rattle.nodes.specs.Nodes.{live}
 use Rattle.valve_log.specs.History.{History}
@@ -55,11 +55,13 @@ module _ (v : List View) (s : Held) where
   due-keeps gs flush = unfold flushStep in programming-keeps _ _ _ _
   due-keeps gs unnamed = refused-keeps 7
 
-pub step-keeps : (n : ℕ) (v : List View) (s : Held) (bs : List ℕ) → KeepsHead s (stepOf n v s bs)
-unfolding stepOf
-step-keeps n v s bs =
-    checked-cases (KeepsHead s) _ _ (refused-keeps v s)
-    (λ e. first-cases (KeepsHead s) v s (due v s (bufferedIn bs) (s .pending)) (λ r. unfold KeepsHead erasing in refl) (λ r. due-keeps v s (bufferedIn bs) (s .pending)))
+-- whatever is asked before the step
+pub step-keeps : (cs : List Need) (v : List View) (s : Held) (gs : List (List Entry))
+    → KeepsHead s (under cs (erasedFirst v s (due v s gs (s .pending))))
+step-keeps cs v s gs =
+    checked-cases (KeepsHead s) cs _ (refused-keeps v s)
+    (λ e. first-cases (KeepsHead s) v s (due v s gs (s .pending)) (λ r. unfold KeepsHead erasing in refl)
+    (λ r. due-keeps v s gs (s .pending)))
 
 -- ---- the next serial
 

@@ -14,7 +14,7 @@ use Rattle.flash.specs.Cuts.{bitAt}
 use Rattle.state.specs.State.{Held}
 use Rattle.recovery.specs.Recovery.{recoveryWith, recover as recoverOf}
 use Rattle.valve_log.specs.History.{History, tell}
-use Rattle.valve_log.specs.Reached.{World, Event, happen, Reached, Words, Shows}
+use Rattle.valve_log.specs.Reached.{World, Event, happen, Earlier, happened, Before, switchedOff, Reached, Words, Shows}
 
 -- ---- the medium
 
@@ -30,10 +30,13 @@ FadesTogether = (m m′ m″ : List ℕ) → Faded m m′ → Faded m′ m″ �
 
 -- ---- the moments of a list
 
--- q is the list r of calls and cuts as it is now, or as it was before its last event or events: r begins with q.
+-- q is the list r of calls and cuts as it is now, or as it was before its last event or events: r begins with q. A moment of the program
+-- as it was before Paper 8 is the medium as it then stood.
 pub data AtOrBefore {v : World} {g : History} (q : Reached v g) : (w : World) (h : History) → Reached w h → Type 0 where
   now : AtOrBefore q v g q
   earlier : {w : World} {h : History} {r : Reached w h} (e : Event w) → AtOrBefore q w h r → AtOrBefore q (happen w e .after) (tell h (happen w e .told)) (Reached.next w h e r)
+  older : {w : World} {h : History} {b : Before w h} (e : Earlier w) → AtOrBefore q (switchedOff w) h (Reached.takenOver b)
+      → AtOrBefore q (switchedOff (happened w e .after)) (tell h (happened w e .told)) (Reached.takenOver (Before.next w h e b))
 
 -- "that or an earlier moment since formatting ended": the list as it was then, which starts where formatting ended as every list does, with the world
 -- and the plain history that it had led to. It may stand after any event, also between a cut and its recovery.

@@ -14,7 +14,7 @@ use Rattle.state.specs.State.{Held}
 use Rattle.recovery.specs.Recovery.{recoveryWith, recover as recoverOf}
 use Rattle.valve_log.specs.History.{UnderWay, nothing, appending, committing, collecting, flushing, History, Told}
 use Rattle.valve_log.specs.History.{unchanged, beganAppend, beganCommit, beganCollect, putIn, beganFlush, steppedPage, steppedBlock, recovery, assignGroups}
-use Rattle.valve_log.specs.Reached.{World, happen, Reached, Words}
+use Rattle.valve_log.specs.Reached.{World, happen, happened, Before, Reached, Words}
 use Rattle.fading.specs.Fading.{Faded}
 
 -- ---- what was made
@@ -44,9 +44,14 @@ groupsCounting h steppedBlock = []
 groupsCounting h recovery = []
 
 -- All groups that have counted along a list, the first to count first; a commit takes none away.
+unfoldable pub groupsMadeBefore : {w : World} {h : History} → Before w h → List (List Entry)
+groupsMadeBefore (Before.start w F e) = []
+groupsMadeBefore (Before.next w h e b) = groupsMadeBefore b ++ groupsCounting h (happened w e .told)
+
 unfoldable pub groupsMade : {w : World} {h : History} → Reached w h → List (List Entry)
 groupsMade (Reached.start w F e) = []
 groupsMade (Reached.next w h e r) = groupsMade r ++ groupsCounting h (happen w e .told)
+groupsMade (Reached.takenOver b) = groupsMadeBefore b
 
 -- ---- nothing that was not made, no order that did not occur
 

@@ -21,15 +21,17 @@ use Rattle.flash.proofs.Cuts.{CutViews, cut-erase-views}
 use Rattle.blocks.specs.declared.Head.{Head}
 use Rattle.blocks.specs.Blocks.{available, newHead, pageDue}
 use Rattle.nodes.specs.Nodes.{words, live}
-use Rattle.state.specs.State.{Pending, idle, append, commit, collect, format, unnamed, Held, doneFit, basePages, pendingFit, flush, bufferedIn}
+use Rattle.state.specs.State.{Pending, idle, append, commit, collect, format, unnamed, Held, doneFit, basePages, flush, bufferedIn}
 use Rattle.recovery.specs.Recovery.{serialOf, base}
 use Rattle.recovery.specs.Recovery
 use Rattle.calls.specs.Calls.{starting, zip, serialsFor, appendNeeds, appendOf, commitNeeds, commitOf, collectNeeds, collectOf, bufferNeeds, bufferOf, flushNeeds, flushOf}
-use Rattle.step.specs.Step.{Step, isLast, groupPage, appended, committed, collected, flushed, erasing, programming, appendStep, commitStep, moveStep, collectStep, flushStep, due, stepOf, mediumAfter}
+use Rattle.step.specs.Step.{Step, isLast, groupPage, appended, committed, collected, flushed, erasing, programming, appendStep, commitStep, moveStep, collectStep, flushStep, due, erasedFirst, stepOf, mediumAfter}
 use Rattle.step.proofs.Laws.{first-cases}
 use Rattle.dispatcher.specs.Parts.{baseEnd}
 use Rattle.valve_log.specs.History.{History, Told, beganAppend, beganCommit, beganCollect, putIn, beganFlush}
-use Rattle.valve_log.specs.Reached.{World, world, lentAnew, withState, stepDue, CutOf, Event, called, filled, stepped, sameBytes, cutShort, recovered, happen, Reached}
+use Rattle.valve_log.specs.Reached.{World, world, lentAnew, withState, stepDue, CutOf, Event, called, filled, stepped, sameBytes, cutShort, recovered, happen, finishes, Formatting}
+use Rattle.valve_log.specs.Reached.{stepDueBefore, Earlier, happened, Before, Reached}
+use Rattle.valve_log.specs.ValveZero.{appendBefore, bufferBefore, flushBefore, stepBefore}
 use Rattle.valve_log.proofs.Groups.{ends-page}
 use Rattle.valve_log.proofs.Steps.{page-serial}
 use Rattle.valve_log.proofs.Sound.{Sound, base-is, greatest, outcome, accepts}
@@ -38,10 +40,11 @@ use Rattle.valve_log.proofs.Coupling.{alive-of, Coupled}
 use Rattle.valve_log.proofs.Due.{Good}
 use Rattle.valve_log.proofs.Events.{Upheld, there, others, not-whole, same-true, erase-cut, due-good, cut-seen, block-there}
 use Rattle.valve_log.proofs.Formats.{Begins, basePage, started, in-format, starts}
+use Rattle.valve_log.proofs.ValveZero.{due-before, before-upheld}
 use Rattle.valve_log.proofs.Point3.{reached-upheld}
 use Rattle.valve_log.proofs.Supply.{HeadReady, Which, due-page}
-use Rattle.valve_log.proofs.Ready.{Left, Ready}
-use Rattle.valve_log.proofs.Steady.{StateReady, reached-ready}
+use Rattle.valve_log.proofs.Ready.{Left, pendingWell, Ready}
+use Rattle.valve_log.proofs.Steady.{StateReady, before-ready, reached-ready}
 use Rattle.housekeeping.proofs.Places.{not-spoilt, not-clean, newestOf, serial-below, newest-at, lost-base, lost-next, Fewer}
 use Rattle.housekeeping.proofs.Places.{Based, Near, Stands, turned-fewer, fewer-based, fewer-stands, plain-stands, near-more, base-stands}
 
@@ -111,14 +114,14 @@ module _ (v : List View) (s : Held) (h : History) (c : Coupled v (some s) h) (r 
   append-stands es ps e =
       programming-stands v (s .head) (groupPage 1 es (length ps) (s .head .serial)) (appended s es ps p) (isLast (length ps) (length es)) (r .heads) (omega (arith, lefts, fewer)) (λ w f. after w f)
     where
-      pends : pendingFit v (s .head) (s .index) (append es ps) ≡ true
+      pends : pendingWell v (s .head) (s .index) (append es ps) ≡ true
       pends = rw e at (r .pend)
 
       lefts : pagesFor (length es) ≤ length ps + available v (s .head)
       lefts = unfold Left in (rw e at (r .left))
 
       fewer : length ps < pagesFor (length es)
-      fewer = unfold pendingFit doneFit in ltb-true (length ps) (pagesFor (length es)) (every-at 1 _ (every-at 1 _ pends))
+      fewer = unfold pendingWell doneFit in ltb-true (length ps) (pagesFor (length es)) (every-at 1 _ (every-at 2 _ pends))
 
       after : Which v (s .head) p → isClean (seen v p) ≡ true → Stands (set v p (whole (groupPage 1 es (length ps) (s .head .serial)))) (appended s es ps p)
       after w f = unfold appended in
@@ -132,14 +135,14 @@ module _ (v : List View) (s : Held) (h : History) (c : Coupled v (some s) h) (r 
   commit-stands k e =
       programming-stands v (s .head) (groupPage 2 (s .index) k (s .head .serial)) (committed s k p) (isLast k (length (s .index))) (r .heads) (omega (arith, lefts, fewer)) (λ w f. after w f)
     where
-      pends : pendingFit v (s .head) (s .index) (commit k) ≡ true
+      pends : pendingWell v (s .head) (s .index) (commit k) ≡ true
       pends = rw e at (r .pend)
 
       lefts : basePages (length (s .index)) ≤ k + available v (s .head)
       lefts = unfold Left in (rw e at (r .left))
 
       fewer : k < basePages (length (s .index))
-      fewer = unfold pendingFit doneFit in ltb-true k (basePages (length (s .index))) (every-at 1 _ pends)
+      fewer = unfold pendingWell doneFit in ltb-true k (basePages (length (s .index))) (every-at 1 _ pends)
 
       few : k < 16
       few = let n : length (s .index) ≤ 192 = omega (arith, ap length (alive-of (c .memory) .indices), c .medium .tidy .count) in omega (arith, few-base (length (s .index)) k n fewer)
@@ -200,14 +203,13 @@ module _ (v : List View) (s : Held) (h : History) (c : Coupled v (some s) h) (r 
   due-stands gs flush e = flush-stands gs e
   due-stands gs unnamed e = absurd (unfold Left in (rw e at (r .left)))
 
-  -- the erase before a new head's first page moves no page
-  step-stands : (n : ℕ) (bs : List ℕ) → StepStands v (stepOf n v s bs)
-  unfolding stepOf
-  step-stands n bs =
-      checked-cases (StepStands v) _ _ (λ k. unfold StepStands in tt)
-      (λ z. first-cases (StepStands v) v s (due v s (bufferedIn bs) (s .pending))
+  -- whatever is asked before it; the erase before a new head's first page moves no page
+  step-stands : (cs : List Need) (gs : List (List Entry)) → StepStands v (under cs (erasedFirst v s (due v s gs (s .pending))))
+  step-stands cs gs =
+      checked-cases (StepStands v) cs _ (λ k. unfold StepStands in tt)
+      (λ z. first-cases (StepStands v) v s (due v s gs (s .pending))
       (λ q. unfold StepStands erasing in (λ w cut. fewer-stands v w s (s .pending) _ (λ k z. z) (turned-fewer v w (16 * newHead v (s .head)) 16 cut) t))
-      (λ q. due-stands (bufferedIn bs) (s .pending) refl))
+      (λ q. due-stands gs (s .pending) refl))
 
 -- ---- events
 
@@ -215,8 +217,8 @@ module _ (m : List ℕ) (s : Held) (bs : List ℕ) (h : History) (U : Upheld (wo
   stands : Stands (views m) s
   stands = unfold StateStands in P .state
 
-  steps : StepStands (views m) (stepOf (length m) (views m) s bs)
-  steps = step-stands (views m) s h (U .coupled) r stands (length m) bs
+  steps : (cs : List Need) → StepStands (views m) (under cs (erasedFirst (views m) s (due (views m) s (bufferedIn bs) (s .pending))))
+  steps cs = step-stands (views m) s h (U .coupled) r stands cs (bufferedIn bs)
 
   begun-stands : (pend : Pending) → ((k : ℕ) → pend ≡ commit k → Near (views m) (s .head .serial - k) (s .head) k) → Placing (views m) (some (starting s pend))
   begun-stands pend n = record { based = P .based; state = unfold StateStands in record { newest = stands .newest; near = n; based = stands .based } }
@@ -313,12 +315,42 @@ event-places m (some s) bs h Event.flush U r P =
     unfold flushOf StateReady in
     call-stands m s bs h U r P beganFlush (flushNeeds (length m) (views m) s bs) (starting s flush) (begun-stands m s bs h U r P flush (λ k q. absurd (no-flush k q)))
 event-places m none bs h Event.step U r P = unfold stepped in P
-event-places m (some s) bs h Event.step U r P = unfold StateReady in stepped-places m s bs h U r P (stepOf (length m) (views m) s bs) (due-good m s bs h U) (steps m s bs h U r P)
+event-places m (some s) bs h Event.step U r P =
+    unfold StateReady in
+    stepped-places m s bs h U r P (stepOf (length m) (views m) s bs) (due-good m s bs h U) (unfold stepOf in steps m s bs h U r P _)
 event-places m s bs h Event.recover U r P = recover-places m s bs h U P
 event-places m s bs h Event.read U r P = P
 event-places m s bs h Event.cut U r P = lost-state P
 event-places m none bs h (Event.cutInside left c) U r P = absurd (unfold CutOf in c)
-event-places m (some s) bs h (Event.cutInside left c) U r P = unfold StateReady in cut-places m s bs h U r P (stepOf (length m) (views m) s bs) (due-good m s bs h U) (steps m s bs h U r P) left c
+event-places m (some s) bs h (Event.cutInside left c) U r P =
+    unfold StateReady in
+    cut-places m s bs h U r P (stepOf (length m) (views m) s bs) (due-good m s bs h U) (unfold stepOf in steps m s bs h U r P _) left c
+
+-- and so one of the program before Paper 8
+earlier-places : (m : List ℕ) (s : Option Held) (bs : List ℕ) (h : History) (e : Earlier (world m s bs)) → Upheld (world m s bs) h
+    → StateReady (views m) s → Placing (views m) s → Placing (views (happened (world m s bs) e .after .medium)) (happened (world m s bs) e .after .state)
+unfolding happened withState stepDueBefore
+earlier-places m s bs h (Earlier.same e) U r P = event-places m s bs h e U r P
+earlier-places m none bs h (Earlier.append ks ws a b) U r P = P
+earlier-places m (some s) bs h (Earlier.append ks ws a b) U r P =
+    unfold appendBefore StateReady in
+    call-stands m s bs h U r P (beganAppend (zip ks ws)) _ (starting s (append (zip ks ws) []))
+    (begun-stands m s bs h U r P (append (zip ks ws) []) (λ k q. absurd (no-append (zip ks ws) [] k q)))
+earlier-places m none bs h (Earlier.buffer ks ws a b) U r P = P
+earlier-places m (some s) bs h (Earlier.buffer ks ws a b) U r P =
+    unfold bufferBefore StateReady in buffer-stands m s bs h U r P (putIn (zip ks ws)) _ (holding (bufferedIn bs ++ (zip ks ws ∷ [])))
+earlier-places m none bs h Earlier.flush U r P = P
+earlier-places m (some s) bs h Earlier.flush U r P =
+    unfold flushBefore StateReady in
+    call-stands m s bs h U r P beganFlush _ (starting s flush) (begun-stands m s bs h U r P flush (λ k q. absurd (no-flush k q)))
+earlier-places m none bs h Earlier.step U r P = unfold stepped in P
+earlier-places m (some s) bs h Earlier.step U r P =
+    unfold StateReady in
+    stepped-places m s bs h U r P (stepBefore (length m) (views m) s bs) (due-before m s bs h U) (unfold stepBefore in steps m s bs h U r P _)
+earlier-places m none bs h (Earlier.cutInside left c) U r P = absurd (unfold CutOf in c)
+earlier-places m (some s) bs h (Earlier.cutInside left c) U r P =
+    unfold StateReady in
+    cut-places m s bs h U r P (stepBefore (length m) (views m) s bs) (due-before m s bs h U) (unfold stepBefore in steps m s bs h U r P _) left c
 
 -- ---- where the list starts
 
@@ -346,6 +378,16 @@ starts-places w B = rw (B .holds) (placing (subst (λ (o : Option Held). Coupled
           based = record { two = λ q pg e n l. record { other = 0; each = λ q′ pg′ e′ l′. inr (let z = zeroth q′ pg′ e′ in omega arith) } };
         }
 
+finished-places : (v : World) → Formatting v → finishes (stepDue v) ≡ true
+    → Placing (views (happen v Event.step .after .medium)) (happen v Event.step .after .state)
+finished-places v F e = starts-places (lentAnew (happen v Event.step .after)) (starts (v .medium) (v .buffer) (v .state) (in-format v F) e)
+
+before-places : (w : World) (h : History) → Before w h → Placing (views (w .medium)) (w .state)
+before-places w h (Before.start v F e) = finished-places v F e
+before-places w h (Before.next v g e b) =
+    earlier-places (v .medium) (v .state) (v .buffer) g e (before-upheld v g b) (before-ready v g b) (before-places v g b)
+
 pub reached-places : (w : World) (h : History) → Reached w h → Placing (views (w .medium)) (w .state)
-reached-places w h (Reached.start v F e) = starts-places (lentAnew (happen v Event.step .after)) (starts (v .medium) (v .buffer) (v .state) (in-format v F) e)
+reached-places w h (Reached.start v F e) = finished-places v F e
 reached-places w h (Reached.next v g e r) = event-places (v .medium) (v .state) (v .buffer) g e (reached-upheld v g r) (reached-ready v g r) (reached-places v g r)
+reached-places w h (Reached.takenOver {w = v} {h = g} b) = lost-state (before-places v g b)

@@ -25,7 +25,7 @@ use Rattle.blocks.specs.declared.Head.{Head}
 use Rattle.blocks.specs.Blocks.{sizeOk, spare, available, reachesBase, oldBlock, newHead, pageDue, collectible}
 use Rattle.nodes.specs.Nodes.{inBlock, sound, words, live}
 use Rattle.nodes.proofs.Alive.{in-live}
-use Rattle.state.specs.State.{Pending, idle, append, commit, collect, Held, held, doneFit, basePages, pendingFit, fit, fitWith, bufferedIn, isIdle}
+use Rattle.state.specs.State.{Pending, idle, append, commit, collect, Held, held, doneFit, basePages, fit, fitWith, bufferedIn, isIdle}
 use Rattle.calls.specs.Calls.{serialsFor}
 use Rattle.step.specs.Step.{Step, isLast, groupPage, headAfter, addressed, appended, committed, collected, erasing, programsDue, needsErase}
 use Rattle.step.specs.Step.{erasedFirst, pageNeeds, programming, appendStep, commitStep, moveStep, collectStep, due, stepOf, mediumAfter, bufferAfter}
@@ -45,8 +45,8 @@ use Rattle.valve_log.proofs.Due.{Good, Programs, Erases, old-page, counted-coll
 use Rattle.valve_log.proofs.Events.{Upheld, sized, there, block-there, erase-cut, due-good}
 use Rattle.valve_log.proofs.Point3.{reached-upheld}
 use Rattle.valve_log.proofs.Supply.{clean-elsewhere, spare-is, spare-other, spare-clean, Which, in-head, new-head, due-page, available-after}
-use Rattle.valve_log.proofs.Ready.{Left, Ready, fit-ready, sound-part, collects, due-outside, old-elsewhere}
-use Rattle.valve_log.proofs.Allowed.{reached-allowed}
+use Rattle.valve_log.proofs.Ready.{Left, pendingWell, Ready, fit-ready, sound-part, collects, due-outside, old-elsewhere}
+use Rattle.valve_log.proofs.Allowed.{Allowed, StateAllowed, reached-allowed}
 use Rattle.valve_log.proofs.Steady.{StateReady, reached-ready}
 use Rattle.valve_log.proofs.Once.{erased-recorded}
 use Rattle.dispatcher.specs.Dispatch.{serialSeen, greatestBelow, greatestSerial, endsBase, newer}
@@ -77,11 +77,14 @@ module _ {m : List ℕ} {s : Held} {h : History} (K : Known m s h) where
   pub alives : Alive (views m) s (h .underWay) (K .upheld .coupled .b) (K .upheld .coupled .ch) (K .upheld .coupled .gs) (K .upheld .coupled .idx)
   alives = alive-of (K .upheld .coupled .memory)
 
+  allows : Allowed h
+  allows = unfold StateAllowed in reached-allowed (world m (some s) fresh) h (K .reached)
+
   pub fits : fit (views m) s ≡ true
-  fits = fit-ready (views m) s h (K .upheld .coupled) (K .ready)
+  fits = fit-ready (views m) s h (K .upheld .coupled) allows (K .ready)
 
   pub fits-fresh : fitWith (views m) s fresh ≡ true
-  fits-fresh = with-fit (views m) (lent-of (K .upheld .lending)) (reached-allowed (world m (some s) fresh) h (K .reached)) fits
+  fits-fresh = with-fit (views m) (lent-of (K .upheld .lending)) (allows .gathers) fits
 
   pub bound : (q : ℕ) (x : Page) → seen (views m) q ≡ whole x → x .serial < s .head .serial
   bound q x e = omega (arith, serial-below (K .upheld .coupled .medium) q x e, alives .serials)
@@ -383,7 +386,7 @@ module _ {m : List ℕ} {s : Held} {h : History} (K : Known m s h) (k : ℕ) (e 
       lefts = unfold Left in (subst (Left (views m) (s .head) (s .index)) e (K .ready .left))
 
       fewer : k < basePages (length (s .index))
-      fewer = unfold pendingFit doneFit in ltb-true k (basePages (length (s .index))) (every-at 1 _ (ap (pendingFit (views m) (s .head) (s .index)) (sym e) ∙ K .ready .pend))
+      fewer = unfold pendingWell doneFit in ltb-true k (basePages (length (s .index))) (every-at 1 _ (ap (pendingWell (views m) (s .head) (s .index)) (sym e) ∙ K .ready .pend))
 
   whichs : Which (views m) (s .head) p
   whichs = due-page (views m) (s .head) (K .ready .heads) one-left .which
@@ -578,7 +581,7 @@ module _ {m : List ℕ} {s : Held} {h : History} (K : Known m s h) (b : ℕ) (e 
   head = s .head
 
   fits-block : collectible (views m) (s .head) b ≡ true
-  fits-block = unfold pendingFit in (ap (pendingFit (views m) (s .head) (s .index)) (sym e) ∙ K .ready .pend)
+  fits-block = unfold pendingWell in (ap (pendingWell (views m) (s .head) (s .index)) (sym e) ∙ K .ready .pend)
 
   pages-left : pagesFor (length (live (s .index) b)) ≤ available (views m) (s .head)
   pages-left = unfold Left in (subst (Left (views m) (s .head) (s .index)) e (K .ready .left))

@@ -274,6 +274,7 @@ runs x h (Run.start z y f v last) =
 runs x h (Run.next z y k e r v) =
     subst (λ t. reached.Reached (worldOf y) (tell k t)) (sym (answers-told z y e v))
     (there (λ w. reached.Reached w (tell k (happen (worldOf z) e .told))) z y e v (reached.next (worldOf z) k e (runs z k r)))
+runs x h (Run.takenOver b) = unfold meant in reached.takenOver b
 
 -- ---- what the program is handed
 

@@ -20,25 +20,24 @@ use Rattle.recover.specs.Recovers.{Recovers}
 use Rattle.readings.specs.Readings.{filedLog, readLog}
 use Rattle.filing.specs.Filed.{leaving}
 use Rattle.log_reader.specs.declared.LogPlace.{LogPlace}
-use Rattle.log_reader.specs.declared.LogReader.{LogReader}
 use Rattle.log_reader.specs.Reader.{startOf, refusedPlace, over, AskedInTurn}
 use Rattle.log_reader.proofs.FirstToLast.{first-to-last}
 use Rattle.log_reader.proofs.Form.{answers, form-first-to-last}
 use Rattle.spans.specs.Spans.{spanEffect, effectOf}
 use Rattle.mattered.specs.Mattered.{mattered, listedIn, readMattered}
 use Rattle.valve_log.specs.History.{History, history, nothing}
-use Rattle.valve_log.specs.Reached.{World, Event, happen, Reached, Shows, Point3}
+use Rattle.valve_log.specs.Reached.{World, Event, happen, Earlier, happened, Before, Reached, Shows, Point3}
 use Rattle.valve_log.proofs.Point3.{reached-upheld, point3}
 use Rattle.fading.specs.Fading.{Faded, AsThen, RefusedWith4To6}
-use Rattle.fading.specs.Made.{groupsCounting}
+use Rattle.fading.specs.Made.{groupsCounting, groupsMadeBefore}
 use Rattle.fading.proofs.Standing.{Within, nextSerial, next-within}
 use Rattle.fading.proofs.Same.{accepted, recovers, recover-cases, state-found, serial-found}
-use Rattle.fading.proofs.Moments.{PageChange, happen-change, OlderStand, older-apart, Along, along-now, along-next, AtSerial, at-now, at-next, start-next}
+use Rattle.fading.proofs.Moments.{PageChange, happen-change, changed-before, OlderStand, older-apart, Along, along-now, along-next, AtSerial, at-now, at-next, start-next}
 use Rattle.fading.proofs.Fading.{faded-within, next-two, as-since, refused-with-4-to-6}
-use Rattle.fading.proofs.Made.{Tallied, tell-tallied, start-tallied, MadeSince, none-since, more-since, log-among, settings-then}
-use Rattle.journal.specs.Run.{Machine, worldOf, Moves, toldBy, Run, Handed}
+use Rattle.fading.proofs.Made.{Tallied, tell-tallied, start-tallied, before-tallied, MadeSince, none-since, more-since, log-among, settings-then}
+use Rattle.journal.specs.Run.{Machine, worldOf, Moves, toldBy, startingOn, Run, Handed}
 use Rattle.journal.specs.Reader.{ReadOut}
-use Rattle.journal.specs.Fading.{RunAtOrBefore, now, earlier, MomentOfRun, TurnedBack, HandedAsThen, TurnedBackOrHanded, refuses, hands, FadesOfCode}
+use Rattle.journal.specs.Fading.{RunAtOrBefore, now, earlier, older, MomentOfRun, TurnedBack, HandedAsThen, TurnedBackOrHanded, refuses, hands, FadesOfCode}
 use Rattle.journal.specs.Fading.{groupsMadeBy, HandedAsMade, OnlyMadeOfCode, SerialTellsOfCode}
 use Rattle.journal.proofs.Chain.{moves, answers-finished, formatting, runs, found-state, handed, size-reached, fit-reached}
 use Rattle.journal.proofs.Reader.{out}
@@ -53,6 +52,10 @@ now-of {x} {h} r = record { machine = x; history = h; run = r; passed = now }
 abbrev onward-of : {x z : Machine} {h : History} (r : Run x h) (e : Event (worldOf x)) (v : Moves x e z) → MomentOfRun r → MomentOfRun (Run.next x z h e r v)
 onward-of r e v t = record { machine = t .machine; history = t .history; run = t .run; passed = earlier e v (t .passed) }
 
+abbrev older-of : {w : World} {h : History} (b : Before w h) (e : Earlier w) → MomentOfRun (Run.takenOver b)
+    → MomentOfRun (Run.takenOver (Before.next w h e b))
+older-of b e t = record { machine = t .machine; history = t .history; run = t .run; passed = older e (t .passed) }
+
 abbrev mediumThen : {x : Machine} {h : History} (r : Run x h) → MomentOfRun r → List ℕ
 mediumThen r t = t .machine .medium
 
@@ -62,6 +65,14 @@ moved x y h e r v =
     let m : y .medium ≡ happen (worldOf x) e .after .medium = ap (λ (w : World). w .medium) (moves x y e v) in
     rw m (happen-change (x .medium) (worldOf x .state) (x .buffer) h e (reached-upheld (worldOf x) h (runs x h r)))
 
+moment-before : (w : World) (h : History) (b : Before w h) (n : ℕ) → 2 ≤ n → n ≤ nextSerial (views (w .medium))
+    → AtSerial (MomentOfRun (Run.takenOver b)) (mediumThen (Run.takenOver b)) (w .medium) n
+moment-before w h (Before.start v F f) n lo hi =
+    at-now (now-of (Run.takenOver (Before.start v F f))) n (let b = start-next v F f in omega arith)
+moment-before w h (Before.next v g e b) n lo hi =
+    at-next (v .medium) (now-of (Run.takenOver (Before.next v g e b))) (older-of b e) (λ x. refl) (changed-before v g e b) n
+    (λ k. moment-before v g b n lo k) hi
+
 moment-of : (x : Machine) (h : History) (r : Run x h) (n : ℕ) → 2 ≤ n → n ≤ nextSerial (views (x .medium)) → AtSerial (MomentOfRun r) (mediumThen r) (x .medium) n
 moment-of x h (Run.start z y f v last) n lo hi =
     let m : y .medium ≡ happen (worldOf z) Event.step .after .medium = ap (λ (w : World). w .medium) (moves z y Event.step v) in
@@ -69,6 +80,7 @@ moment-of x h (Run.start z y f v last) n lo hi =
     at-now (now-of (Run.start z y f v last)) n (omega arith)
 moment-of x h (Run.next z y k e r v) n lo hi =
     at-next (z .medium) (now-of (Run.next z y k e r v)) (onward-of r e v) (λ t. refl) (moved z y k e r v) n (λ l. moment-of z k r n lo l) hi
+moment-of x h (Run.takenOver {w = w} {h = k} b) n lo hi = moment-before w k b n lo hi
 
 -- ---- what is handed
 
@@ -173,11 +185,14 @@ run-tallied : (x : Machine) (h : History) (r : Run x h) → Tallied (groupsMadeB
 unfolding groupsMadeBy
 run-tallied x h (Run.start z y f v last) = start-tallied
 run-tallied x h (Run.next z y k e r v) = tell-tallied (groupsMadeBy r) k (run-tallied z k r) (toldBy z y e v)
+run-tallied x h (Run.takenOver {w = w} {h = k} b) = before-tallied w k b
 
 made-since : {y : Machine} {g : History} (q : Run y g) (x : Machine) (h : History) (r : Run x h) → RunAtOrBefore q x h r → MadeSince (groupsMadeBy q) (groupsMadeBy r)
-unfolding groupsMadeBy
+unfolding groupsMadeBy groupsMadeBefore
 made-since q x h r now = none-since (groupsMadeBy q)
 made-since q x h r (earlier {x = x′} {z = z} {h = h′} {r = r′} e v p) = more-since (groupsCounting h′ (toldBy x′ z e v)) (made-since q x′ h′ r′ p)
+made-since q x h r (older {w = w} {h = h′} {b = b} e p) =
+    more-since (groupsCounting h′ (happened w e .told)) (made-since q (startingOn w) h′ (Run.takenOver b) p)
 
 -- what is handed depends on log and settings alone
 module _ (m : List ℕ) (g : History) where
@@ -212,6 +227,9 @@ only-made-of-code x h r m f a p z = go (fades-of-code x h r m f)
 along-run : {y : Machine} {g : History} (q : Run y g) (x : Machine) (h : History) (r : Run x h) → RunAtOrBefore q x h r → Along (y .medium) (x .medium)
 along-run {y} q x h r now = along-now (y .medium)
 along-run {y} q x h r (earlier {x = x′} {z = z} {h = h′} {r = r′} e v p) = along-next (y .medium) (x′ .medium) (z .medium) (moved x′ z h′ e r′ v) (along-run q x′ h′ r′ p)
+along-run {y} q x h r (older {w = w} {h = h′} {b = b} e p) =
+    along-next (y .medium) (w .medium) (happened w e .after .medium) (changed-before w h′ e b)
+    (along-run q (startingOn w) h′ (Run.takenOver b) p)
 
 -- a moment at which the run had passed the moment q
 record From {y : Machine} {g : History} (q : Run y g) (x : Machine) (h : History) (r : Run x h) : Type 0 where
@@ -227,6 +245,11 @@ moment-from q x h r now n lo hi = at-now {f = mediumFrom q x h r} (record { mome
 moment-from q x h r (earlier {x = x′} {z = z} {h = h′} {r = r′} e v p) n lo hi =
     at-next {f = mediumFrom q x′ h′ r′} {g = mediumFrom q x h r} (x′ .medium) (record { moment = now-of (Run.next x′ z h′ e r′ v); passed = earlier e v p })
     (λ t. record { moment = onward-of r′ e v (t .moment); passed = t .passed }) (λ t. refl) (moved x′ z h′ e r′ v) n (λ k. moment-from q x′ h′ r′ p n lo k) hi
+moment-from q x h r (older {w = w} {h = h′} {b = b} e p) n lo hi =
+    at-next {f = mediumFrom q (startingOn w) h′ (Run.takenOver b)} {g = mediumFrom q x h r} (w .medium)
+    (record { moment = now-of (Run.takenOver (Before.next w h′ e b)); passed = older e p })
+    (λ t. record { moment = older-of b e (t .moment); passed = t .passed }) (λ t. refl) (changed-before w h′ e b) n
+    (λ k. moment-from q (startingOn w) h′ (Run.takenOver b) p n lo k) hi
 
 -- the next serial of a state recovered
 serial-recovered : (m : List ℕ) (log : List (List Entry)) (s : Held) → recover (length m) (views m) ≡ gives (recoveryWith log s) → (a : Recovered) → Recovers m a

@@ -33,7 +33,7 @@ use Rattle.valve_log.proofs.Steady.{steady}
 use Rattle.valve_log.proofs.Weak.{Guard, Kept, Careful, step-careful, event-kept, begun-guard}
 use Rattle.housekeeping.specs.Bound.{Suffice, Meets13, Possible}
 use Rattle.housekeeping.proofs.Possible.{possible}
-use Rattle.journal.specs.Run.{Machine, machine, meant, worldOf, Moves, Formatting, Run}
+use Rattle.journal.specs.Run.{Machine, machine, meant, worldOf, Moves, Formatting, startingOn, Run}
 use Rattle.journal.specs.Housekeeping.{Answers13, ArisesInRun, PossibleOfCode}
 use Rattle.journal.proofs.Chain.{moves, answers-told, answers-meanwhile, answers-finished}
 use Rattle.journal.proofs.Started.{stateOf, state-same, answered}
@@ -198,6 +198,8 @@ runs-to w h (Reached.start w₀ F f) =
 runs-to w h (Reached.next w₀ h₀ e R) =
     let T = runs-to w₀ h₀ R in
     subst (λ (z : World). (e : Event z) → RunTo (happen z e .after) (tell h₀ (happen z e .told))) (T .is) (run-on (T .x) h₀ (T .run) (T .weak) (T .kept)) e
+runs-to w h (Reached.takenOver {w = w₀} b) =
+    record { x = startingOn w₀; is = unfold meant in refl; run = Run.takenOver b; weak = λ k. false; kept = unfold meant Kept in tt }
 
 -- ---- the premise of the bound
 

@@ -20,7 +20,7 @@ use Rattle.spans.specs.Along.{answerOf, Effects}
 use Rattle.valve_log.specs.History.{History}
 use Rattle.valve_log.specs.Reached.{Words, Shows, Point3}
 use Rattle.valve_log.proofs.Point3.{point3}
-use Rattle.valve_log.proofs.SinceCommit.{Since, start-since, tell-since, since-effect}
+use Rattle.valve_log.proofs.SinceCommit.{Since, start-since, tell-since, before-since, since-effect}
 use Rattle.journal.specs.Run.{Machine, worldOf, toldBy, Run, Point3OfCode}
 use Rattle.journal.specs.SinceCommit.{lastCommittedIn, EffectExplainsOfCode}
 use Rattle.journal.proofs.Chain.{runs, point3-of-code}
@@ -29,6 +29,7 @@ run-since : (x : Machine) (h : History) (R : Run x h) → Since h (lastCommitted
 unfolding lastCommittedIn
 run-since x h (Run.start z y F v last) = start-since
 run-since x h (Run.next z y k e R v) = tell-since k (lastCommittedIn z k R) (toldBy z y e v) (run-since z k R)
+run-since x h (Run.takenOver {w = w} {h = k} b) = before-since w k b
 
 -- the whole log is a span of it
 whole-span : (log : List (List Entry)) → span 0 (length log) log ≡ log

@@ -36,6 +36,7 @@ run-kept : (weak : Weak) (x : Machine) (h : History) (R : Run x h) → Kept (wea
 unfolding weakIn
 run-kept weak x h (Run.start z y F v last) = moves-kept (weakInFormat weak z F) z y Event.step v (format-kept weak z F)
 run-kept weak x h (Run.next z y k e R v) = moves-kept (weakIn weak z k R) z y e v (run-kept weak z k R)
+run-kept weak x h (Run.takenOver b) = unfold meant Kept in tt
 
 kept-guard : (weak : Weak) (o : Option State) (s : State) → o ≡ some s → Kept weak (meant o) → Guard weak (meaning s)
 unfolding meant Kept

@@ -21,19 +21,22 @@ use Rattle.spans.specs.Along.{answerOf, Effects}
 use Rattle.mattered.specs.Mattered.{mattered, listedIn}
 use Rattle.mattered.specs.Listed.{ListsMattered}
 use Rattle.valve_log.specs.History.{History, history, nothing, assignGroups, tell}
-use Rattle.valve_log.specs.Reached.{Event}
+use Rattle.valve_log.specs.Reached.{World, Event, Earlier, happened, Before}
 use Rattle.fading.specs.Fading.{Faded}
-use Rattle.fading.specs.Made.{groupsCounting}
-use Rattle.journal.specs.Run.{Machine, worldOf, Moves, toldBy, Run, Handed}
+use Rattle.fading.specs.Made.{groupsCounting, groupsMadeBefore}
+use Rattle.journal.specs.Run.{Machine, worldOf, Moves, toldBy, startingOn, Run, Handed}
 use Rattle.journal.specs.Reader.{ReadOut}
 
 -- ---- the moments of a run
 
--- q is the run r as it is now, or as it was before its last move or moves: r begins with q.
+-- q is the run r as it is now, or as it was before its last move or moves: r begins with q. A moment of the program as it was before
+-- Paper 8 is the medium as it then stood.
 pub data RunAtOrBefore {y : Machine} {g : History} (q : Run y g) : (x : Machine) (h : History) → Run x h → Type 0 where
   now : RunAtOrBefore q y g q
   earlier : {x z : Machine} {h : History} {r : Run x h} (e : Event (worldOf x)) (v : Moves x e z) → RunAtOrBefore q x h r
       → RunAtOrBefore q z (tell h (toldBy x z e v)) (Run.next x z h e r v)
+  older : {w : World} {h : History} {b : Before w h} (e : Earlier w) → RunAtOrBefore q (startingOn w) h (Run.takenOver b)
+      → RunAtOrBefore q (startingOn (happened w e .after)) (tell h (happened w e .told)) (Run.takenOver (Before.next w h e b))
 
 -- "that or an earlier moment since formatting ended": the run as it was then, with the machine and the plain history that it had led to
 pub record MomentOfRun {x : Machine} {h : History} (r : Run x h) : Type 0 where
@@ -82,6 +85,7 @@ FadesOfCode = (x : Machine) (h : History) (r : Run x h) (m : List ℕ) → Faded
 unfoldable pub groupsMadeBy : {x : Machine} {h : History} → Run x h → List (List Entry)
 groupsMadeBy (Run.start x y f v last) = []
 groupsMadeBy (Run.next x y h e r v) = groupsMadeBy r ++ groupsCounting h (toldBy x y e v)
+groupsMadeBy (Run.takenOver b) = groupsMadeBefore b
 
 -- Of the groups made, those before the log, the log, and those that are not shown. What is handed of m is this log, and the settings that the groups
 -- up to its end lead to, none being set at first.

@@ -14,13 +14,14 @@ use Rattle.spans.specs.Spans.{spanEffect}
 use Rattle.spans.specs.Along.{answerOf, Effects}
 use Rattle.valve_log.specs.History.{History}
 use Rattle.valve_log.specs.Reached.{Words}
-use Rattle.valve_log.specs.SinceCommit.{settingsAtCommit}
+use Rattle.valve_log.specs.SinceCommit.{settingsAtCommit, lastCommittedBefore}
 use Rattle.journal.specs.Run.{Machine, toldBy, Run}
 
 -- the settings at the last counted commit along a run; "none set before the first"
 unfoldable pub lastCommittedIn : (x : Machine) (h : History) → Run x h → List Setting
 lastCommittedIn x h (Run.start z y F v last) = []
 lastCommittedIn x h (Run.next z y k e R v) = settingsAtCommit (lastCommittedIn z k R) k (toldBy z y e v)
+lastCommittedIn x h (Run.takenOver {w = w} {h = k} b) = lastCommittedBefore w k b
 
 -- Whatever the effect's call and recovery answer, of which nothing is known but the promise: the call answers of the history's log, so that 1 to 6 never
 -- refuse it; and what it answers of the whole log, where that is not 22, laid on some settings gives recovery's valves, each with the word at its address.

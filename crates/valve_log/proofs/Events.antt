@@ -239,7 +239,7 @@ recover-good m s b h U = rw (accepts (U .coupled .medium) (length m) (U .size)) 
 
 -- ---- a cut between two steps
 
-cut-good : (m : List ℕ) (s : Option Held) (b b′ : List ℕ) (h : History) → Upheld (world m s b) h → Upheld (world m none b′) h
+pub cut-good : (m : List ℕ) (s : Option Held) (b b′ : List ℕ) (h : History) → Upheld (world m s b) h → Upheld (world m none b′) h
 cut-good m s b b′ h U = record { size = U .size; guarded = U .guarded; coupled = forget (h .underWay) (U .coupled); lending = lost }
 
 -- ---- the bytes of two media

@@ -184,20 +184,30 @@ module _ (m : List ℕ) (b : Bytes m) (size : sizeOk (length m) ≡ true) where
   under-way zero h = Formatting.begun m (formatting (length m / 4096)) fresh b (begun-there (length m) size)
   under-way (suc k) h = Formatting.next (stepsOn k (first m)) Event.step (under-way k (omega arith)) (unfold meanwhile in rw (not-over k (omega arith)))
 
+  -- where a step for each block is done, the next one finishes it
+  abbrev pub erasedAll : World
+  erasedAll = stepsOn (length m / 4096) (first m)
+
+  pub all-under-way : Formatting erasedAll
+  all-under-way = under-way (length m / 4096) (omega arith)
+
+  pub over : finishes (stepDue erasedAll) ≡ true
+  over = is-over (length m) size erasedAll (at (length m / 4096) (omega arith))
+
+  pub over-length : length (happen erasedAll Event.step .after .medium) ≡ length m
+  over-length = length-last (length m) size erasedAll (at (length m / 4096) (omega arith))
+
   finished : Finished m
   unfolding stepsOn
   finished =
-      let k : length m / 4096 ≤ length m / 4096 = omega arith in
-      let w = stepsOn (length m / 4096) (first m) in
-      let over = is-over (length m) size w (at (length m / 4096) k) in
       record {
         state = formatting (length m / 4096);
         begun = begun-there (length m) size;
         accepted = all-accepted;
         before = not-over;
         last = over;
-        reached = Reached.start w (under-way (length m / 4096) k) over;
-        same-length = length-last (length m) size w (at (length m / 4096) k);
+        reached = Reached.start erasedAll all-under-way over;
+        same-length = over-length;
       }
 
 pub formatting-finishes : FormattingFinishes

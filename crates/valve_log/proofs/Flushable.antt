@@ -34,7 +34,7 @@ use Rattle.valve_log.proofs.Lent.{Beside, Lent, lent-of, lent-groups, w
 use Rattle.valve_log.proofs.Events.{Upheld}
 use Rattle.valve_log.proofs.Point3.{reached-upheld}
 use Rattle.valve_log.proofs.Ready.{Ready, fit-ready}
-use Rattle.valve_log.proofs.Allowed.{Allowed, reached-allowed}
+use Rattle.valve_log.proofs.Allowed.{Allowed, StateAllowed, reached-allowed}
 use Rattle.valve_log.proofs.Steady.{StateReady, reached-ready, steady}
 
 -- ---- what is kept along the list
@@ -202,6 +202,7 @@ event-room m s b h (Event.cutInside left c) U r = cut-room (world m s b) left (s
 reached-room : (w : World) (h : History) → Reached w h → WorldRoom w h
 reached-room w h (Reached.start v F e) = room-none _ _ _ refl
 reached-room w h (Reached.next v g e R) = event-room (v .medium) (v .state) (v .buffer) g e (reached-upheld v g R) (reached-room v g R)
+reached-room w h (Reached.takenOver b) = unfold StateRoom in tt
 
 -- ---- the flush
 
@@ -214,7 +215,7 @@ module _ (m : List ℕ) (s : Held) (bs : List ℕ) (h : History) (U : Upheld (wo
   lends = lent-of (U .lending)
 
   fits : fitWith v s bs ≡ true
-  fits = with-fit v lends A (fit-ready v s h (U .coupled) r)
+  fits = with-fit v lends (A .gathers) (fit-ready v s h (U .coupled) A r)
 
   some-group : 1 ≤ length (h .buffered)
   unfolding holdsNone
@@ -242,7 +243,7 @@ module _ (m : List ℕ) (s : Held) (bs : List ℕ) (h : History) (U : Upheld (wo
   unfolding flushOf under
   begins e =
       let k = room-idle (s .pending) e room in
-      rw (U .size, fits, e, some-held, lent-groups lends, A, lends .count, k .0, k .1)
+      rw (U .size, fits, e, some-held, lent-groups lends, A .gathers, lends .count, k .0, k .1)
 
   -- the flush pending
   pend-flush : {serial : ℕ} {ch : List Placed} {gs : List Group} {idx : List Place} (p : Pending) (u : UnderWay) → Pend v serial ch gs idx p u → Beside p u (h .buffered) → isIdle p ≡ false → p ≡ flush
@@ -282,8 +283,8 @@ module _ (m : List ℕ) (s : Held) (bs : List ℕ) (h : History) (U : Upheld (wo
       true-false x (unfold expected every in refl))
 
 answers : (m : List ℕ) (o : Option Held) (bs : List ℕ) (h : History) (s : Held) → Upheld (world m o bs) h → StateReady (views m) o
-    → Allowed h → StateRoom (views m) (h .buffered) o → o ≡ some s → holdsNone bs ≡ false → Answers m s bs → CanFlush m s bs
-unfolding StateReady
+    → StateAllowed o h → StateRoom (views m) (h .buffered) o → o ≡ some s → holdsNone bs ≡ false → Answers m s bs → CanFlush m s bs
+unfolding StateReady StateAllowed
 answers m none bs h s U r L R e k A = let z : _≡_ {A = ℕ} 0 1 = cc in absurd (omega arith)
 answers m (some t) bs h s U r L R e k A =
     let q : t ≡ s = cc in

@@ -13,15 +13,16 @@ pub mod Lent
 pub mod Due
 pub mod Events
 pub mod Formats
+pub mod ValveZero
 pub mod Point3
 pub mod Allowed
-pub mod ValveZero
 pub mod Supply
 pub mod Ready
 pub mod Steady
 pub mod Stateless
 pub mod Quiet
 pub mod Finished
+pub mod ValveZeroSet
 pub mod Weak
 pub mod Once
 pub mod Buffered

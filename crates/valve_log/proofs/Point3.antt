@@ -13,14 +13,16 @@ use Rattle.page.specs.Pages.{View}
 use Rattle.flash.specs.Medium.{views}
 use Rattle.nodes.specs.Nodes.{wordAt, sound, words}
 use Rattle.valve_log.specs.History.{History}
-use Rattle.valve_log.specs.Reached.{World, Reached, Words, Shows, Point3}
+use Rattle.valve_log.specs.Reached.{World, fresh, Reached, Words, Shows, Point3}
 use Rattle.valve_log.proofs.Sound.{outcome, accepts}
-use Rattle.valve_log.proofs.Events.{Upheld, happen-good}
+use Rattle.valve_log.proofs.Events.{Upheld, cut-good, happen-good}
 use Rattle.valve_log.proofs.Formats.{in-format, starts}
+use Rattle.valve_log.proofs.ValveZero.{before-upheld}
 
 pub reached-upheld : (w : World) (h : History) → Reached w h → Upheld w h
 reached-upheld w h (Reached.start v F e) = starts (v .medium) (v .buffer) (v .state) (in-format v F) e .upheld
 reached-upheld w h (Reached.next v g e r) = happen-good (v .medium) (v .state) (v .buffer) g e (reached-upheld v g r)
+reached-upheld w h (Reached.takenOver {w = v} {h = g} b) = cut-good (v .medium) (v .state) (v .buffer) fresh g (before-upheld v g b)
 
 -- the words of a sound index, place by place
 words-of : (v : List View) (l : List Place) → sound v l ≡ true → Words v l (words v l)

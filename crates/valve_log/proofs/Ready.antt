@@ -7,7 +7,7 @@ use mathlib.Core.List.{List, [], _∷_, _++_}
 use Prim.Native.Nat.{ℕ, suc, _+_, _-_, _*_, _/_, _≤_, _<_}
 use native.Mathlib.Omega.{arith}
 use native.Mathlib.Decide.{decLt}
-use lib.Dec.{ltb}
+use lib.Dec.{ltb, leb}
 use lib.ListN.{length, set, take, length-set, length-take, length-append}
 use borrow.Author.Tests.{ltb-true, leb-false, lt-ltb, le-leb, eq-eqb, ne-eqb, not-true}
 use Rattle.lists.specs.declared.Cell.{Cell}
@@ -15,22 +15,23 @@ use Rattle.lists.specs.Lists.{all, every, isSome}
 use Rattle.lists.specs.Needs.{Answer, refused, gives, under}
 use Rattle.lists.specs.Cells.{Entry, Place}
 use Rattle.lists.proofs.Laws.{by-cases, and-both, true-false, below-same, every-at, all-head, all-tail, all-take}
-use Rattle.page.specs.Pages.{Page, View, spoilt, whole, page, isClean, pagesFor, changesOf}
+use Rattle.page.specs.Pages.{Page, View, spoilt, whole, page, isClean, pagesFor}
 use Rattle.page.specs.Buffer.{groupsPage}
 use Rattle.page.proofs.Berger.{Turned, kept, torn, blanked}
 use Rattle.flash.specs.Medium.{seen, whollyClean}
 use Rattle.flash.proofs.Steps.{seen-set-other}
 use Rattle.flash.proofs.Cuts.{CutViews}
-use Rattle.index.specs.Index.{rising, assignAll, entriesAllowed}
+use Rattle.index.specs.Index.{rising, assignAll, within, entriesAllowed}
 use Rattle.blocks.specs.declared.Head.{Head}
 use Rattle.blocks.specs.Blocks.{sizeOk, available, reachesBase, oldBlock, headWithRoom, newHead, pageDue, collectible}
 use Rattle.nodes.specs.Nodes.{nodeIn, wordFor, wordAt, inBlock, sound, words, live}
-use Rattle.state.specs.State.{Pending, idle, append, commit, collect, format, unnamed, Held, held, headFit, placeFit, indexFit, groupOk, basePages, doneFit, pendingFit, fit, isIdle, flush, bufferedIn}
+use Rattle.state.specs.State.{Pending, idle, append, commit, collect, format, unnamed, Held, held, headFit, placeFit, indexFit, countTests, groupOk, basePages, doneFit, pendingFit, fit, isIdle, flush, bufferedIn}
+use Rattle.recovery.specs.Recovery.{Placed, Group}
 use Rattle.calls.specs.Calls.{serialsFor}
 use Rattle.step.specs.Step.{Step, isLast, groupPage, headAfter, addressed, appended, committed, collected, erasing}
 use Rattle.step.specs.Step.{erasedFirst, programming, appendStep, commitStep, moveStep, collectStep, due, stepOf, flushed, flushStep}
 use Rattle.step.proofs.Laws.{first-cases}
-use Rattle.valve_log.specs.History.{History}
+use Rattle.valve_log.specs.History.{UnderWay, History}
 use Rattle.valve_log.specs.Steady.{expected}
 use Rattle.index.proofs.Members.{In, in-take, in-all, all-in}
 use Rattle.nodes.proofs.Alive.{in-live}
@@ -38,8 +39,9 @@ use Rattle.valve_log.proofs.Index.{valves}
 use Rattle.valve_log.proofs.Views.{clean-same}
 use Rattle.valve_log.proofs.Moves.{unique-live, live-in-block, moves-out}
 use Rattle.valve_log.proofs.Replay.{addressed-one}
-use Rattle.valve_log.proofs.Coupling.{Alive, alive-of, Coupled}
+use Rattle.valve_log.proofs.Coupling.{Pend, at-rest, in-append, in-commit, in-collect, in-flush, Alive, alive-of, Coupled}
 use Rattle.valve_log.proofs.Lent.{Lent, with-fit}
+use Rattle.valve_log.proofs.Allowed.{appendedIn, Allowed}
 use Rattle.valve_log.proofs.Supply.{clean-elsewhere, HeadReady, Which, in-head, new-head, due-page, available-after, ready-after}
 
 -- pages enough for what is pending; formatting is never pending there
@@ -52,10 +54,21 @@ Left v h index (format n) = ⊥
 Left v h index flush = 1 ≤ available v h
 Left v h index unnamed = ⊥
 
+-- what 7 asks of what is pending, but for 11, which was another before Paper 8
+unfoldable pub pendingWell : List View → Head → List Place → Pending → Bool
+pendingWell v h index idle = true
+pendingWell v h index (append es ps) =
+    every (every (countTests (length es)) ∷ within index es ∷ doneFit (length ps) (h .serial) (pagesFor (length es)) ∷ [])
+pendingWell v h index (commit k) = doneFit k (h .serial) (basePages (length index))
+pendingWell v h index (collect b) = collectible v h b
+pendingWell v h index (format n) = false
+pendingWell v h index flush = true
+pendingWell v h index unnamed = false
+
 pub record Ready (v : List View) (s : Held) : Type 0 where
   pub size : length v ≡ 16 * s .head .blocks
   pub heads : HeadReady v (s .head)
-  pub pend : pendingFit v (s .head) (s .index) (s .pending) ≡ true
+  pub pend : pendingWell v (s .head) (s .index) (s .pending) ≡ true
   pub left : Left v (s .head) (s .index) (s .pending)
 
 -- ---- the state is fit
@@ -78,9 +91,25 @@ places-fit v blocks (x ∷ l) n a s =
     and-both (and-both (all-head (λ (y : Cell). ltb (y .key) 32768) x l a) (and-both (lt-ltb (x .val) (384 * blocks) (omega arith)) refl))
     (places-fit v blocks l n (all-tail (λ (y : Cell). ltb (y .key) 32768) x l a) (all-tail (λ (y : Cell). isSome (wordAt v y)) x l s))
 
-pub fit-ready : (v : List View) (s : Held) (h : History) → Coupled v (some s) h → Ready v s → fit v s ≡ true
+-- with 11 it is all that 7 asks of it
+append-fits : (v : List View) (h : Head) (index : List Place) (es : List Entry) (ps : List ℕ) → entriesAllowed es ≡ true
+    → leb 1 (length es) ≡ true → leb (length es) 96 ≡ true → within index es ≡ true → doneFit (length ps) (h .serial) (pagesFor (length es)) ≡ true → pendingFit v h index (append es ps) ≡ true
+unfolding pendingFit groupOk every
+append-fits v h index es ps A low high count done = rw (low, high, A, count, done)
+
+pending-fits : (v : List View) (h : Head) (index : List Place) {serial : ℕ} {ch : List Placed} {gs : List Group} {idx : List Place}
+    (p : Pending) (u : UnderWay) → Pend v serial ch gs idx p u → entriesAllowed (appendedIn u) ≡ true → pendingWell v h index p ≡ true → pendingFit v h index p ≡ true
+unfolding pendingWell appendedIn
+pending-fits v h index p u at-rest A f = unfold pendingFit in refl
+pending-fits v h index p u (in-append {es = es} {ps = ps} k a b c d g) A f =
+    append-fits v h index es ps A (every-at 0 _ (every-at 0 _ f)) (every-at 1 _ (every-at 0 _ f)) (every-at 1 _ f) (every-at 2 _ f)
+pending-fits v h index p u (in-commit k ps pre a b c d g o i) A f = unfold pendingFit in f
+pending-fits v h index p u in-collect A f = unfold pendingFit in f
+pending-fits v h index p u in-flush A f = unfold pendingFit in refl
+
+pub fit-ready : (v : List View) (s : Held) (h : History) → Coupled v (some s) h → Allowed h → Ready v s → fit v s ≡ true
 unfolding fit headFit indexFit every
-fit-ready v s h c r =
+fit-ready v s h c A r =
     rw (
       eq-eqb (s .head .blocks) (length v / 16) (omega (arith, r .size)),
       lt-ltb (s .head .block) (s .head .blocks) (r .heads .inside),
@@ -91,7 +120,7 @@ fit-ready v s h c r =
       le-leb (length (s .index)) 192 (omega (arith, c .medium .tidy .count, ap length (a .indices))),
       ap rising (a .indices) ∙ c .medium .tidy .rise,
       places-fit v (s .head .blocks) (s .index) (r .size) (ap valves (a .indices) ∙ c .medium .tidy .valve) (ap (sound v) (a .indices) ∙ c .medium .sounds),
-      r .pend,
+      pending-fits v (s .head) (s .index) (s .pending) (h .underWay) (a .pends) (A .appends) (r .pend),
     )
   where
     a : Alive v s (h .underWay) (c .b) (c .ch) (c .gs) (c .idx)
@@ -145,15 +174,15 @@ stays-collectible v h b p x n c =
     let f = collects v h b c in
     rw (lt-ltb b (h .blocks) (f .inside), clean-elsewhere v p b x n, f .used, no-room (headAfter h p (h .base)) b (λ e. n (sym e)), old-elsewhere v p b (h .base) x n, f .old)
 
--- an append and a commit with some pages done are fit
-pub fit-append : (v : List View) (h : Head) (index : List Place) (es : List Entry) (ps : List ℕ) → groupOk index es ≡ true
-    → length ps < h .serial → length ps < pagesFor (length es) → pendingFit v h index (append es ps) ≡ true
-unfolding pendingFit doneFit every
-fit-append v h index es ps g a b = rw (g, lt-ltb (length ps) (h .serial) a, lt-ltb (length ps) (pagesFor (length es)) b)
+-- an append and a commit with some pages done
+pub well-append : (v : List View) (h : Head) (index : List Place) (es : List Entry) (ps : List ℕ) → every (countTests (length es)) ≡ true
+    → within index es ≡ true → length ps < h .serial → length ps < pagesFor (length es) → pendingWell v h index (append es ps) ≡ true
+unfolding pendingWell doneFit every
+well-append v h index es ps n w a b = rw (n, w, lt-ltb (length ps) (h .serial) a, lt-ltb (length ps) (pagesFor (length es)) b)
 
-pub fit-commit : (v : List View) (h : Head) (index : List Place) (k : ℕ) → k < h .serial → k < basePages (length index) → pendingFit v h index (commit k) ≡ true
-unfolding pendingFit doneFit every
-fit-commit v h index k a b = rw (lt-ltb k (h .serial) a, lt-ltb k (basePages (length index)) b)
+pub well-commit : (v : List View) (h : Head) (index : List Place) (k : ℕ) → k < h .serial → k < basePages (length index) → pendingWell v h index (commit k) ≡ true
+unfolding pendingWell doneFit every
+well-commit v h index k a b = rw (lt-ltb k (h .serial) a, lt-ltb k (basePages (length index)) b)
 
 pub left-append : (v : List View) (h : Head) (index : List Place) (es : List Entry) (ps : List ℕ) → pagesFor (length es) ≤ length ps + available v h → Left v h index (append es ps)
 unfolding Left
@@ -229,21 +258,21 @@ module _ (v : List View) (s : Held) (h : History) (c : Coupled v (some s) h) (r 
       programming-ready v (s .head) (groupPage 1 es (length ps) (s .head .serial)) (appended s es ps p) (isLast (length ps) (length es)) (r .heads)
       (omega (arith, lefts, fewer)) (λ w. by-cases (isLast (length ps) (length es)) (λ l. last w l) (λ l. more w l))
     where
-      pends : pendingFit v (s .head) (s .index) (append es ps) ≡ true
+      pends : pendingWell v (s .head) (s .index) (append es ps) ≡ true
       pends = rw e at (r .pend)
 
       lefts : pagesFor (length es) ≤ length ps + available v (s .head)
       lefts = unfold Left in (rw e at (r .left))
 
       fewer : length ps < pagesFor (length es)
-      fewer = unfold pendingFit doneFit in ltb-true (length ps) (pagesFor (length es)) (every-at 1 _ (every-at 1 _ pends))
+      fewer = unfold pendingWell doneFit in ltb-true (length ps) (pagesFor (length es)) (every-at 1 _ (every-at 2 _ pends))
 
       last : Which v (s .head) p → isLast (length ps) (length es) ≡ true → Ready (set v p (whole (groupPage 1 es (length ps) (s .head .serial)))) (appended s es ps p)
       last w l = unfold appended in rw l
           (record {
             size = unfold headAfter in grown-size (whole (groupPage 1 es (length ps) (s .head .serial)));
             heads = ready-after v (s .head) p (s .head .base) (whole (groupPage 1 es (length ps) (s .head .serial))) (r .heads) w;
-            pend = unfold pendingFit in refl;
+            pend = unfold pendingWell in refl;
             left = unfold Left in tt;
           })
 
@@ -259,14 +288,14 @@ module _ (v : List View) (s : Held) (h : History) (c : Coupled v (some s) h) (r 
             left = left-append (set v p (whole (groupPage 1 es (length ps) (s .head .serial)))) (headAfter (s .head) p (s .head .base)) (s .index) es (ps ++ (p ∷ [])) (omega (arith, lefts));
           })
         where
-          pend-more : isLast (length ps) (length es) ≡ false → pendingFit (set v p (whole (groupPage 1 es (length ps) (s .head .serial)))) (headAfter (s .head) p (s .head .base)) (s .index)
+          pend-more : isLast (length ps) (length es) ≡ false → pendingWell (set v p (whole (groupPage 1 es (length ps) (s .head .serial)))) (headAfter (s .head) p (s .head .base)) (s .index)
               (append es (ps ++ (p ∷ []))) ≡ true
           pend-more l =
               let n : length (ps ++ (p ∷ [])) ≡ suc (length ps) = omega (arith, length-append ps (p ∷ [])) in
-              let k : length ps < s .head .serial = unfold pendingFit doneFit in ltb-true (length ps) (s .head .serial) (every-at 0 _ (every-at 1 _ pends)) in
-              let g : groupOk (s .index) es ≡ true = unfold pendingFit in every-at 0 _ pends in
+              let k : length ps < s .head .serial = unfold pendingWell doneFit in ltb-true (length ps) (s .head .serial) (every-at 0 _ (every-at 2 _ pends)) in
               let m = more-pages (length es) (length ps) l in
-              fit-append (set v p (whole (groupPage 1 es (length ps) (s .head .serial)))) (headAfter (s .head) p (s .head .base)) (s .index) es (ps ++ (p ∷ [])) g
+              well-append (set v p (whole (groupPage 1 es (length ps) (s .head .serial)))) (headAfter (s .head) p (s .head .base)) (s .index) es (ps ++ (p ∷ []))
+              (unfold pendingWell in every-at 0 _ pends) (unfold pendingWell in every-at 1 _ pends)
               (omega (arith, head-after-serial (s .head) p (s .head .base))) (omega arith)
 
   commit-ready : (k : ℕ) → s .pending ≡ commit k → StepReady v (commitStep v s k)
@@ -275,21 +304,21 @@ module _ (v : List View) (s : Held) (h : History) (c : Coupled v (some s) h) (r 
       programming-ready v (s .head) (groupPage 2 (s .index) k (s .head .serial)) (committed s k p) (isLast k (length (s .index))) (r .heads)
       (omega (arith, lefts, fewer)) (λ w. by-cases (isLast k (length (s .index))) (λ l. last w l) (λ l. more w l))
     where
-      pends : pendingFit v (s .head) (s .index) (commit k) ≡ true
+      pends : pendingWell v (s .head) (s .index) (commit k) ≡ true
       pends = rw e at (r .pend)
 
       lefts : basePages (length (s .index)) ≤ k + available v (s .head)
       lefts = unfold Left in (rw e at (r .left))
 
       fewer : k < basePages (length (s .index))
-      fewer = unfold pendingFit doneFit in ltb-true k (basePages (length (s .index))) (every-at 1 _ pends)
+      fewer = unfold pendingWell doneFit in ltb-true k (basePages (length (s .index))) (every-at 1 _ pends)
 
       last : Which v (s .head) p → isLast k (length (s .index)) ≡ true → Ready (set v p (whole (groupPage 2 (s .index) k (s .head .serial)))) (committed s k p)
       last w l = unfold committed in rw l
           (record {
             size = unfold headAfter in grown-size (whole (groupPage 2 (s .index) k (s .head .serial)));
             heads = ready-after v (s .head) p (s .head .serial - k) (whole (groupPage 2 (s .index) k (s .head .serial))) (r .heads) w;
-            pend = unfold pendingFit in refl;
+            pend = unfold pendingWell in refl;
             left = unfold Left in tt;
           })
 
@@ -304,11 +333,11 @@ module _ (v : List View) (s : Held) (h : History) (c : Coupled v (some s) h) (r 
             left = unfold Left in omega (arith, lefts);
           })
         where
-          pend-more : isLast k (length (s .index)) ≡ false → pendingFit (set v p (whole (groupPage 2 (s .index) k (s .head .serial)))) (headAfter (s .head) p (s .head .base)) (s .index)
+          pend-more : isLast k (length (s .index)) ≡ false → pendingWell (set v p (whole (groupPage 2 (s .index) k (s .head .serial)))) (headAfter (s .head) p (s .head .base)) (s .index)
               (commit (suc k)) ≡ true
           pend-more l =
-              let q : k < s .head .serial = unfold pendingFit doneFit in ltb-true k (s .head .serial) (every-at 0 _ pends) in
-              fit-commit (set v p (whole (groupPage 2 (s .index) k (s .head .serial)))) (headAfter (s .head) p (s .head .base)) (s .index) (suc k)
+              let q : k < s .head .serial = unfold pendingWell doneFit in ltb-true k (s .head .serial) (every-at 0 _ pends) in
+              well-commit (set v p (whole (groupPage 2 (s .index) k (s .head .serial)))) (headAfter (s .head) p (s .head .base)) (s .index) (suc k)
               (omega (arith, head-after-serial (s .head) p (s .head .base))) (more-base (length (s .index)) k l)
 
   -- the nodes moved leave the block, and a page fewer is wanted
@@ -339,7 +368,7 @@ module _ (v : List View) (s : Held) (h : History) (c : Coupled v (some s) h) (r 
       pages = unfold pagesFor in omega arith
 
       fits : collectible v (s .head) b ≡ true
-      fits = unfold pendingFit in (rw e at (r .pend))
+      fits = unfold pendingWell in (rw e at (r .pend))
 
       taken : length (take 24 l) ≤ 24
       taken = omega (arith, length-take 24 l)
@@ -367,7 +396,7 @@ module _ (v : List View) (s : Held) (h : History) (c : Coupled v (some s) h) (r 
           (record {
             size = unfold headAfter in grown-size (whole (page 3 3 (s .head .serial) (words v (take 24 l))));
             heads = ready-after v (s .head) p (s .head .base) (whole (page 3 3 (s .head .serial) (words v (take 24 l)))) (r .heads) w;
-            pend = unfold pendingFit in stays-collectible v (s .head) b p (whole (page 3 3 (s .head .serial) (words v (take 24 l)))) n fits;
+            pend = unfold pendingWell in stays-collectible v (s .head) b p (whole (page 3 3 (s .head .serial) (words v (take 24 l)))) n fits;
             left = left-collect (set v p (whole (page 3 3 (s .head .serial) (words v (take 24 l))))) (headAfter (s .head) p (s .head .base))
                 (assignAll (s .index) (addressed (take 24 l) (p ∷ []))) b (omega (arith, lefts));
           })
@@ -379,7 +408,7 @@ module _ (v : List View) (s : Held) (h : History) (c : Coupled v (some s) h) (r 
       record {
         size = cut .size ∙ r .size;
         heads = record { inside = r .heads .inside; low = r .heads .low; high = r .heads .high; tail = λ i lo hi. still (16 * s .head .block + i) (r .heads .tail i lo hi) };
-        pend = unfold pendingFit in refl;
+        pend = unfold pendingWell in refl;
         left = unfold Left in tt;
       }
     where
@@ -416,7 +445,7 @@ module _ (v : List View) (s : Held) (h : History) (c : Coupled v (some s) h) (r 
       record {
         size = unfold headAfter in grown-size (whole (groupsPage (s .head .serial) gs));
         heads = ready-after v (s .head) p (s .head .base) (whole (groupsPage (s .head .serial) gs)) (r .heads) w;
-        pend = unfold pendingFit in refl;
+        pend = unfold pendingWell in refl;
         left = unfold Left in tt;
       })
     where
@@ -433,9 +462,13 @@ module _ (v : List View) (s : Held) (h : History) (c : Coupled v (some s) h) (r 
   due-ready gs flush e = flush-ready gs e
   due-ready gs unnamed e = absurd (unfold Left in (rw e at (r .left)))
 
-  pub step-ready : (b : List ℕ) → Lent s b h → entriesAllowed (changesOf (h .buffered)) ≡ true → (n : ℕ) → sizeOk n ≡ true → StepReady v (stepOf n v s b)
+  -- the step, whatever was asked before it
+  pub own-ready : (gs : List (List Entry)) → StepReady v (erasedFirst v s (due v s gs (s .pending)))
+  own-ready gs = first-ready (due v s gs (s .pending)) (due-ready gs (s .pending) refl)
+
+  pub step-ready : (b : List ℕ) → Lent s b h → Allowed h → (n : ℕ) → sizeOk n ≡ true → StepReady v (stepOf n v s b)
   unfolding stepOf under
   step-ready b L A n size =
-      let f = with-fit v L A (fit-ready v s h c r) in
+      let f = with-fit v L (A .gathers) (fit-ready v s h c A r) in
       by-cases (isIdle (s .pending)) (λ i. rw (size, f, i) (unfold StepReady in expected-9))
-      (λ i. rw (size, f, i) (first-ready (due v s (bufferedIn b) (s .pending)) (due-ready (bufferedIn b) (s .pending) refl)))
+      (λ i. rw (size, f, i) (own-ready (bufferedIn b)))

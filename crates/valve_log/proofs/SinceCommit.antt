@@ -19,8 +19,8 @@ use Rattle.index.proofs.Lookup.{valve, assign-it, assign-else, same-list}
 use Rattle.index.proofs.Entries.{all-rising, assign-append}
 use Rattle.valve_log.specs.History.{UnderWay, nothing, appending, committing, collecting, flushing, History, start as noHistory, Told, unchanged}
 use Rattle.valve_log.specs.History.{beganAppend, beganCommit, beganCollect, putIn, beganFlush, steppedPage, steppedBlock, recovery, counted, tell}
-use Rattle.valve_log.specs.Reached.{World, happen, Reached, Words, Point3}
-use Rattle.valve_log.specs.SinceCommit.{commitEndsNext, settingsAtCommit, lastCommitted, EffectExplains}
+use Rattle.valve_log.specs.Reached.{World, happen, happened, Before, Reached, Words, Point3}
+use Rattle.valve_log.specs.SinceCommit.{commitEndsNext, settingsAtCommit, lastCommittedBefore, lastCommitted, EffectExplains}
 use Rattle.valve_log.proofs.Point3.{point3}
 use Rattle.valve_log.proofs.Steps.{assign-groups}
 
@@ -159,10 +159,16 @@ start-since = record { rises = refl; rises-now = refl; so = refl }
 pub since-effect : (h : History) (s : List Setting) → Since h s → assignAll s (effect (h .log)) ≡ h .settings
 since-effect h s k = effect-laid s (h .log) (k .rises) ∙ k .so
 
+pub before-since : (w : World) (h : History) (b : Before w h) → Since h (lastCommittedBefore w h b)
+unfolding lastCommittedBefore
+before-since w h (Before.start v F e) = start-since
+before-since w h (Before.next v g e b) = tell-since g (lastCommittedBefore v g b) (happened v e .told) (before-since v g b)
+
 reached-since : (w : World) (h : History) (r : Reached w h) → Since h (lastCommitted w h r)
 unfolding lastCommitted
 reached-since w h (Reached.start v F e) = start-since
 reached-since w h (Reached.next v g e r) = tell-since g (lastCommitted v g r) (happen v e .told) (reached-since v g r)
+reached-since w h (Reached.takenOver {w = v} {h = g} b) = before-since v g b
 
 pub effect-explains : EffectExplains
 unfolding EffectExplains Point3

@@ -17,19 +17,21 @@ use Rattle.page.specs.Pages.{View, clean, spoilt, whole, isClean, pagesFor, cha
 use Rattle.flash.specs.Medium.{views, seen, erased}
 use Rattle.flash.proofs.Laws.{length-views}
 use Rattle.flash.proofs.Steps.{program-views}
-use Rattle.index.specs.Index.{within, entriesAllowed, lookup}
+use Rattle.index.specs.Index.{within, lookup}
 use Rattle.blocks.specs.Blocks.{sizeOk, available}
 use Rattle.nodes.specs.Nodes.{wordAt, sound, words, live}
-use Rattle.state.specs.State.{Pending, append, commit, collect, flush, Held, groupOk, basePages, pendingFit, fit, fitWith, bufferedIn, stateNeeds}
+use Rattle.state.specs.State.{Pending, append, commit, collect, flush, Held, countTests, basePages, fit, fitWith, bufferedIn, stateNeeds}
 use Rattle.recovery.specs.Recovery.{Placed, wholes, sort, lastOf, noPage, Recovery}
 use Rattle.recovery.specs.Recovery
 use Rattle.readings.specs.Readings.{placeOf, openingNeeds, openingOf, lastNaming, setsAt, soughtIn, sought, wordRefusal}
 use Rattle.readings.specs.Readings.{pickOf, surveyOf, availableOf, longEnough, putInto, filedInto, filedSettings, readSettings}
 use Rattle.calls.specs.Calls.{starting, zip, listsOk, roomFor, appendNeeds, appendOf, commitNeeds, commitOf, collectNeeds, collectOf, flushNeeds, flushOf, bufferNeeds, bufferOf}
-use Rattle.step.specs.Step.{Step, stepOf, mediumAfter}
+use Rattle.step.specs.Step.{Step, due, erasedFirst, stepOf, mediumAfter}
 use Rattle.valve_log.specs.Settings.{Stands}
 use Rattle.valve_log.specs.History.{History, Told, beganAppend, beganCommit, beganCollect, putIn, beganFlush}
-use Rattle.valve_log.specs.Reached.{World, world, withState, stepDue, Event, called, stepped, cutShort, recovered, happen, Reached, lentAnew, filled}
+use Rattle.valve_log.specs.Reached.{World, world, withState, stepDue, Event, called, filled, stepped, cutShort, recovered, happen, finishes, Formatting, lentAnew}
+use Rattle.valve_log.specs.Reached.{stepDueBefore, Earlier, happened, Before, Reached}
+use Rattle.valve_log.specs.ValveZero.{with11, appendBefore, bufferBefore, flushBefore, stepBefore}
 use Rattle.valve_log.specs.Steady.{expected, Answers, Steady}
 use Rattle.valve_log.proofs.Order.{all-sort, upto, sort-split}
 use Rattle.index.proofs.Members.{In, first, later, all-in}
@@ -42,9 +44,10 @@ use Rattle.valve_log.proofs.Lent.{Lent, lent-of, with-fit}
 use Rattle.valve_log.proofs.Due.{Good}
 use Rattle.valve_log.proofs.Events.{Upheld, Sized, sized, there, erase-cut, due-good}
 use Rattle.valve_log.proofs.Formats.{Begins, basePage, started, in-format, starts}
-use Rattle.valve_log.proofs.Allowed.{Allowed, reached-allowed}
+use Rattle.valve_log.proofs.Allowed.{Allowed, StateAllowed, reached-allowed}
+use Rattle.valve_log.proofs.ValveZero.{due-before, before-upheld}
 use Rattle.valve_log.proofs.Point3.{reached-upheld}
-use Rattle.valve_log.proofs.Ready.{Left, Ready, fit-ready, sound-part, fit-append, fit-commit, left-append, left-commit, left-collect, left-flush, StepReady, step-ready}
+use Rattle.valve_log.proofs.Ready.{Left, pendingWell, Ready, fit-ready, sound-part, well-append, well-commit, left-append, left-commit, left-collect, left-flush, StepReady, own-ready, step-ready}
 
 -- a state that is there is ready
 unfoldable pub StateReady : List View → Option Held → Type 0
@@ -54,26 +57,27 @@ StateReady v (some s) = Ready v s
 -- ---- operations begun
 
 module _ (n : ℕ) (v : List View) (s : Held) (bs : List ℕ) (h : History) (c : Coupled v (some s) h) (r : Ready v s) where
-  begun-ready : (pend : Pending) → pendingFit v (s .head) (s .index) pend ≡ true → Left v (s .head) (s .index) pend → Ready v (starting s pend)
+  begun-ready : (pend : Pending) → pendingWell v (s .head) (s .index) pend ≡ true → Left v (s .head) (s .index) pend → Ready v (starting s pend)
   begun-ready pend f l = record { size = r .size; heads = r .heads; pend = f; left = l }
 
   serial-one : 1 ≤ s .head .serial
   serial-one = omega (arith, alive-of (c .memory) .serials, c .medium .some-page)
 
-  append-begun : (ks ws : List ℕ) → every (tests (appendNeeds n v s bs ks ws)) ≡ true → Ready v (starting s (append (zip ks ws) []))
-  unfolding tests
-  append-begun ks ws e =
-      let lists = every-at 4 _ e in
+  -- whichever 11 is asked among the conditions
+  append-begun : (ks ws : List ℕ) → listsOk ks ws ≡ true → within (s .index) (zip ks ws) ≡ true
+      → roomFor v (s .head) (pagesFor (length ks) + 16) ≡ true → Ready v (starting s (append (zip ks ws) []))
+  append-begun ks ws lists count fits =
       let z = zip-length ks ws (eqb-true (length ks) (length ws) (unfold listsOk in every-at 0 _ lists)) in
       let low : 1 ≤ length ks = leb-true 1 (length ks) (unfold listsOk in every-at 1 _ lists) in
       let high : length ks ≤ 96 = leb-true (length ks) 96 (unfold listsOk in every-at 2 _ lists) in
-      let room : pagesFor (length ks) + 16 ≤ available v (s .head) = leb-true (pagesFor (length ks) + 16) (available v (s .head)) (unfold roomFor in every-at 7 _ e) in
+      let room : pagesFor (length ks) + 16 ≤ available v (s .head) =
+      leb-true (pagesFor (length ks) + 16) (available v (s .head)) (unfold roomFor in fits) in
       begun-ready (append (zip ks ws) [])
-      (fit-append v (s .head) (s .index) (zip ks ws) [] (ok (omega arith) (omega arith) (every-at 5 _ e) (every-at 6 _ e)) serial-one (some-page (omega arith)))
+      (well-append v (s .head) (s .index) (zip ks ws) [] (counted (omega arith) (omega arith)) count serial-one (some-page (omega arith)))
       (left-append v (s .head) (s .index) (zip ks ws) [] (rw z (omega arith)))
     where
-      ok : 1 ≤ length (zip ks ws) → length (zip ks ws) ≤ 96 → entriesAllowed (zip ks ws) ≡ true → within (s .index) (zip ks ws) ≡ true → groupOk (s .index) (zip ks ws) ≡ true
-      ok a b p q = unfold groupOk every in rw (le-leb 1 (length (zip ks ws)) a, le-leb (length (zip ks ws)) 96 b, p, q)
+      counted : 1 ≤ length (zip ks ws) → length (zip ks ws) ≤ 96 → every (countTests (length (zip ks ws))) ≡ true
+      counted a b = unfold every in rw (le-leb 1 (length (zip ks ws)) a, le-leb (length (zip ks ws)) 96 b)
 
       some-page : 1 ≤ length (zip ks ws) → 0 < pagesFor (length (zip ks ws))
       some-page a = unfold pagesFor in omega arith
@@ -82,19 +86,18 @@ module _ (n : ℕ) (v : List View) (s : Held) (bs : List ℕ) (h : History) (c :
   unfolding tests
   commit-begun e =
       let room : basePages (length (s .index)) ≤ available v (s .head) = leb-true (basePages (length (s .index))) (available v (s .head)) (unfold roomFor in every-at 4 _ e) in
-      begun-ready (commit 0) (fit-commit v (s .head) (s .index) 0 serial-one (unfold basePages in omega arith)) (left-commit v (s .head) (s .index) 0 (omega arith))
+      begun-ready (commit 0) (well-commit v (s .head) (s .index) 0 serial-one (unfold basePages in omega arith)) (left-commit v (s .head) (s .index) 0 (omega arith))
 
   collect-begun : (b : ℕ) → every (tests (collectNeeds n v s bs b)) ≡ true → Ready v (starting s (collect b))
   unfolding tests
   collect-begun b e =
       let room : pagesFor (length (live (s .index) b)) ≤ available v (s .head) = leb-true (pagesFor (length (live (s .index) b))) (available v (s .head)) (unfold roomFor in every-at 6 _ e) in
-      begun-ready (collect b) (unfold pendingFit in every-at 4 _ e) (left-collect v (s .head) (s .index) b room)
+      begun-ready (collect b) (unfold pendingWell in every-at 4 _ e) (left-collect v (s .head) (s .index) b room)
 
-  flush-begun : every (tests (flushNeeds n v s bs)) ≡ true → Ready v (starting s flush)
-  unfolding tests
-  flush-begun e =
-      let room : 1 + 16 ≤ available v (s .head) = leb-true (1 + 16) (available v (s .head)) (unfold roomFor in every-at 6 _ e) in
-      begun-ready flush (unfold pendingFit in refl) (left-flush v (s .head) (s .index) (omega arith))
+  flush-begun : roomFor v (s .head) (1 + 16) ≡ true → Ready v (starting s flush)
+  flush-begun fits =
+      let room : 1 + 16 ≤ available v (s .head) = leb-true (1 + 16) (available v (s .head)) (unfold roomFor in fits) in
+      begun-ready flush (unfold pendingWell in refl) (left-flush v (s .head) (s .index) (omega arith))
 
 -- ---- recovery's state
 
@@ -117,7 +120,7 @@ recovered-ready {v} c even low =
     record {
       size = omega arith;
       heads = record { inside = omega (arith, newest); low = omega arith; high = omega arith; tail = λ i a b. absurd (omega arith) };
-      pend = unfold pendingFit in refl;
+      pend = unfold pendingWell in refl;
       left = unfold Left in tt;
     }
   where
@@ -159,7 +162,7 @@ starts-ready w B = rw (B .holds) (unfold StateReady in ready)
         record {
           size = omega arith;
           heads = record { inside = omega arith; low = omega arith; high = omega arith; tail = λ i a b. let z : 16 * 0 + i ≡ i = omega arith in rw (z, B .sees) (tail-clean i a (many i b)) };
-          pend = unfold pendingFit in refl;
+          pend = unfold pendingWell in refl;
           left = unfold Left in tt;
         }
 
@@ -178,12 +181,23 @@ module _ (m : List ℕ) (s : Held) (bs : List ℕ) (h : History) (U : Upheld (wo
       checked-cases (λ (c : Answer (List ℕ)). StateReady (views (filled (world m (some s) bs) t c .after .medium)) (filled (world m (some s) bs) t c .after .state)) cs (gives b)
       (λ n. unfold filled StateReady in r) (λ e. unfold filled StateReady in r)
 
-  stepped-ready : (st : Answer Step) → Good (views m) s bs h st → StepReady (views m) st
-      → StateReady (views (stepped (world m (some s) bs) st .after .medium)) (stepped (world m (some s) bs) st .after .state)
+  abbrev SteppedReady : Answer Step → Type 0
+  SteppedReady st = StateReady (views (stepped (world m (some s) bs) st .after .medium)) (stepped (world m (some s) bs) st .after .state)
+
+  stepped-ready : (st : Answer Step) → Good (views m) s bs h st → StepReady (views m) st → SteppedReady st
   unfolding stepped mediumAfter Good StepReady StateReady
   stepped-ready (refused n) G R = r
   stepped-ready (gives (Step.program p pg s′ finished)) G R = rw (program-views m p pg (there m s bs h U p pg s′ G) (G .fits-in)) R
   stepped-ready (gives (Step.erase b s′ finished)) G R = R (views (erased m b)) (erase-cut m s bs h U b s′ G)
+
+  -- a step that is refused, or else is the one due
+  abbrev own : Answer Step
+  own = erasedFirst (views m) s (due (views m) s (bufferedIn bs) (s .pending))
+
+  step-kept : (cs : List Need) → Good (views m) s bs h (under cs own) → SteppedReady (under cs own)
+  step-kept cs =
+      checked-cases (λ (st : Answer Step). Good (views m) s bs h st → SteppedReady st) cs own
+      (λ n G. unfold stepped StateReady in r) (λ e G. stepped-ready own G (own-ready (views m) s h (U .coupled) r (bufferedIn bs)))
 
 recover-ready : (m : List ℕ) (s : Option Held) (b : List ℕ) (h : History) → Upheld (world m s b) h
     → StateReady (views (recovered (world m s b) (Recovery.recover (length m) (views m)) .after .medium)) (recovered (world m s b) (Recovery.recover (length m) (views m)) .after .state)
@@ -205,36 +219,72 @@ cut-ready w left (refused n) = tt
 cut-ready w left (gives (Step.program p pg s finished)) = tt
 cut-ready w left (gives (Step.erase b s finished)) = tt
 
-event-ready : (m : List ℕ) (s : Option Held) (b : List ℕ) (h : History) (e : Event (world m s b)) → Upheld (world m s b) h → Allowed h → StateReady (views m) s
+event-ready : (m : List ℕ) (s : Option Held) (b : List ℕ) (h : History) (e : Event (world m s b)) → Upheld (world m s b) h → StateReady (views m) s
     → StateReady (views (happen (world m s b) e .after .medium)) (happen (world m s b) e .after .state)
 unfolding happen withState stepDue
-event-ready m none b h (Event.append ks ws x y) U A r = r
-event-ready m (some s) b h (Event.append ks ws x y) U A r =
+event-ready m none b h (Event.append ks ws x y) U r = r
+event-ready m (some s) b h (Event.append ks ws x y) U r =
     unfold appendOf StateReady in call-ready m s b h U r (beganAppend (zip ks ws)) (appendNeeds (length m) (views m) s b ks ws)
-    (starting s (append (zip ks ws) [])) (append-begun (length m) (views m) s b h (U .coupled) r ks ws)
-event-ready m none b h Event.commit U A r = r
-event-ready m (some s) b h Event.commit U A r =
+    (starting s (append (zip ks ws) []))
+    (λ e. append-begun (length m) (views m) s b h (U .coupled) r ks ws
+    (unfold tests in every-at 4 _ e) (unfold tests in every-at 6 _ e) (unfold tests in every-at 7 _ e))
+event-ready m none b h Event.commit U r = r
+event-ready m (some s) b h Event.commit U r =
     unfold commitOf StateReady in call-ready m s b h U r beganCommit (commitNeeds (length m) (views m) s b) (starting s (commit 0)) (commit-begun (length m) (views m) s b h (U .coupled) r)
-event-ready m none b h (Event.collect k) U A r = r
-event-ready m (some s) b h (Event.collect k) U A r =
+event-ready m none b h (Event.collect k) U r = r
+event-ready m (some s) b h (Event.collect k) U r =
     unfold collectOf StateReady in call-ready m s b h U r beganCollect (collectNeeds (length m) (views m) s b k) (starting s (collect k)) (collect-begun (length m) (views m) s b h (U .coupled) r k)
-event-ready m none b h (Event.buffer ks ws x y) U A r = r
-event-ready m (some s) b h (Event.buffer ks ws x y) U A r =
+event-ready m none b h (Event.buffer ks ws x y) U r = r
+event-ready m (some s) b h (Event.buffer ks ws x y) U r =
     unfold bufferOf StateReady in buffer-ready m s b h U r (putIn (zip ks ws)) (bufferNeeds (length m) (views m) s b ks ws) (holding (bufferedIn b ++ (zip ks ws ∷ [])))
-event-ready m none b h Event.flush U A r = r
-event-ready m (some s) b h Event.flush U A r =
-    unfold flushOf StateReady in call-ready m s b h U r beganFlush (flushNeeds (length m) (views m) s b) (starting s flush) (flush-begun (length m) (views m) s b h (U .coupled) r)
-event-ready m none b h Event.step U A r = unfold stepped in r
-event-ready m (some s) b h Event.step U A r =
-    unfold StateReady in stepped-ready m s b h U r (stepOf (length m) (views m) s b) (due-good m s b h U) (step-ready (views m) s h (U .coupled) r b (lent-of (U .lending)) A (length m) (U .size))
-event-ready m s b h Event.recover U A r = recover-ready m s b h U
-event-ready m s b h Event.read U A r = r
-event-ready m s b h Event.cut U A r = unfold StateReady in tt
-event-ready m s b h (Event.cutInside left c) U A r = cut-ready (world m s b) left (stepDue (world m s b))
+event-ready m none b h Event.flush U r = r
+event-ready m (some s) b h Event.flush U r =
+    unfold flushOf StateReady in call-ready m s b h U r beganFlush (flushNeeds (length m) (views m) s b) (starting s flush)
+    (λ e. flush-begun (length m) (views m) s b h (U .coupled) r (unfold tests in every-at 6 _ e))
+event-ready m none b h Event.step U r = unfold stepped in r
+event-ready m (some s) b h Event.step U r = unfold stepOf StateReady in step-kept m s b h U r _ (unfold stepOf in due-good m s b h U)
+event-ready m s b h Event.recover U r = recover-ready m s b h U
+event-ready m s b h Event.read U r = r
+event-ready m s b h Event.cut U r = unfold StateReady in tt
+event-ready m s b h (Event.cutInside left c) U r = cut-ready (world m s b) left (stepDue (world m s b))
+
+-- and by one of the program before Paper 8
+earlier-ready : (m : List ℕ) (s : Option Held) (b : List ℕ) (h : History) (e : Earlier (world m s b)) → Upheld (world m s b) h
+    → StateReady (views m) s → StateReady (views (happened (world m s b) e .after .medium)) (happened (world m s b) e .after .state)
+unfolding happened withState stepDueBefore with11 tests
+earlier-ready m s b h (Earlier.same e) U r = event-ready m s b h e U r
+earlier-ready m none b h (Earlier.append ks ws x y) U r = r
+earlier-ready m (some s) b h (Earlier.append ks ws x y) U r =
+    unfold appendBefore StateReady in
+    call-ready m s b h U r (beganAppend (zip ks ws)) (with11 (zip ks ws) (appendNeeds (length m) (views m) s b ks ws)) (starting s (append (zip ks ws) []))
+    (λ e. append-begun (length m) (views m) s b h (U .coupled) r ks ws (every-at 4 _ e) (every-at 6 _ e) (every-at 7 _ e))
+earlier-ready m none b h (Earlier.buffer ks ws x y) U r = r
+earlier-ready m (some s) b h (Earlier.buffer ks ws x y) U r =
+    unfold bufferBefore StateReady in
+    buffer-ready m s b h U r (putIn (zip ks ws)) (with11 (zip ks ws) (bufferNeeds (length m) (views m) s b ks ws)) (holding (bufferedIn b ++ (zip ks ws ∷ [])))
+earlier-ready m none b h Earlier.flush U r = r
+earlier-ready m (some s) b h Earlier.flush U r =
+    unfold flushBefore StateReady in
+    call-ready m s b h U r beganFlush (with11 (changesOf (bufferedIn b)) (flushNeeds (length m) (views m) s b)) (starting s flush)
+    (λ e. flush-begun (length m) (views m) s b h (U .coupled) r (every-at 6 _ e))
+earlier-ready m none b h Earlier.step U r = unfold stepped in r
+earlier-ready m (some s) b h Earlier.step U r =
+    unfold stepBefore StateReady in step-kept m s b h U r _ (unfold stepBefore in due-before m s b h U)
+earlier-ready m s b h (Earlier.cutInside left c) U r = cut-ready (world m s b) left (stepDueBefore (world m s b))
+
+-- where formatting is finished
+finished-ready : (v : World) → Formatting v → finishes (stepDue v) ≡ true
+    → StateReady (views (happen v Event.step .after .medium)) (happen v Event.step .after .state)
+finished-ready v F e = starts-ready (lentAnew (happen v Event.step .after)) (starts (v .medium) (v .buffer) (v .state) (in-format v F) e)
+
+pub before-ready : (w : World) (h : History) → Before w h → StateReady (views (w .medium)) (w .state)
+before-ready w h (Before.start v F e) = finished-ready v F e
+before-ready w h (Before.next v g e b) = earlier-ready (v .medium) (v .state) (v .buffer) g e (before-upheld v g b) (before-ready v g b)
 
 pub reached-ready : (w : World) (h : History) → Reached w h → StateReady (views (w .medium)) (w .state)
-reached-ready w h (Reached.start v F e) = starts-ready (lentAnew (happen v Event.step .after)) (starts (v .medium) (v .buffer) (v .state) (in-format v F) e)
-reached-ready w h (Reached.next v g e r) = event-ready (v .medium) (v .state) (v .buffer) g e (reached-upheld v g r) (reached-allowed v g r) (reached-ready v g r)
+reached-ready w h (Reached.start v F e) = finished-ready v F e
+reached-ready w h (Reached.next v g e r) = event-ready (v .medium) (v .state) (v .buffer) g e (reached-upheld v g r) (reached-ready v g r)
+reached-ready w h (Reached.takenOver b) = unfold StateReady in tt
 
 -- ---- what the calls answer
 
@@ -271,18 +321,18 @@ in-lookup valve (x ∷ l) e =
     here : valve ≡ x .key → In (cell valve (x .val)) (x ∷ l)
     here q = rw q first
 
-module _ (m : List ℕ) (s : Held) (bs : List ℕ) (h : History) (U : Upheld (world m (some s) bs) h) (r : Ready (views m) s) where
+module _ (m : List ℕ) (s : Held) (bs : List ℕ) (h : History) (U : Upheld (world m (some s) bs) h) (r : Ready (views m) s) (A : Allowed h) where
   abbrev v : List View
   v = views m
 
   fits : fit v s ≡ true
-  fits = fit-ready v s h (U .coupled) r
+  fits = fit-ready v s h (U .coupled) A r
 
   L : Lent s bs h
   L = lent-of (U .lending)
 
-  fits-with : Allowed h → fitWith v s bs ≡ true
-  fits-with A = with-fit v L A fits
+  fits-with : fitWith v s bs ≡ true
+  fits-with = with-fit v L (A .gathers) fits
 
   index-sound : sound v (s .index) ≡ true
   index-sound = ap (sound v) (alive-of (U .coupled .memory) .indices) ∙ U .coupled .medium .sounds
@@ -307,34 +357,34 @@ module _ (m : List ℕ) (s : Held) (bs : List ℕ) (h : History) (U : Upheld (wo
   unfolding expected every filedSettings
   settings-answers lists n e = rw (filed-fairly lists _ (length (h .settings)) n (sym (settings-filed lists) ∙ e))
 
-  append-answers : Allowed h → (ks ws : List ℕ) (n : ℕ) → appendOf (length m) v s bs ks ws ≡ refused n → expected n ≡ true
+  append-answers : (ks ws : List ℕ) (n : ℕ) → appendOf (length m) v s bs ks ws ≡ refused n → expected n ≡ true
   unfolding appendOf expected every
-  append-answers A ks ws =
+  append-answers ks ws =
       call-fair (appendNeeds (length m) v s bs ks ws) (starting s (append (zip ks ws) []))
-      (met (U .size) (met (fits-with A) (may refl (may refl (may refl (may refl (may refl (may refl (may refl end)))))))))
+      (met (U .size) (met fits-with (may refl (may refl (may refl (may refl (may refl (may refl (may refl end)))))))))
 
-  commit-answers : Allowed h → (n : ℕ) → commitOf (length m) v s bs ≡ refused n → expected n ≡ true
+  commit-answers : (n : ℕ) → commitOf (length m) v s bs ≡ refused n → expected n ≡ true
   unfolding commitOf expected every
-  commit-answers A = call-fair (commitNeeds (length m) v s bs) (starting s (commit 0)) (met (U .size) (met (fits-with A) (may refl (may refl (may refl (may refl end))))))
+  commit-answers = call-fair (commitNeeds (length m) v s bs) (starting s (commit 0)) (met (U .size) (met fits-with (may refl (may refl (may refl (may refl end))))))
 
-  collect-answers : Allowed h → (b n : ℕ) → collectOf (length m) v s bs b ≡ refused n → expected n ≡ true
+  collect-answers : (b n : ℕ) → collectOf (length m) v s bs b ≡ refused n → expected n ≡ true
   unfolding collectOf expected every
-  collect-answers A b =
+  collect-answers b =
       call-fair (collectNeeds (length m) v s bs b) (starting s (collect b))
-      (met (U .size) (met (fits-with A) (may refl (may refl (may refl (met (sound-part v (s .index) (live (s .index) b) index-sound (λ x i. in-live (s .index) b i)) (may refl (may refl end))))))))
+      (met (U .size) (met fits-with (may refl (may refl (may refl (met (sound-part v (s .index) (live (s .index) b) index-sound (λ x i. in-live (s .index) b i)) (may refl (may refl end))))))))
 
-  flush-answers : Allowed h → (n : ℕ) → flushOf (length m) v s bs ≡ refused n → expected n ≡ true
+  flush-answers : (n : ℕ) → flushOf (length m) v s bs ≡ refused n → expected n ≡ true
   unfolding flushOf expected every
-  flush-answers A = call-fair (flushNeeds (length m) v s bs) (starting s flush) (met (U .size) (met (fits-with A) (may refl (may refl (may refl (may refl (may refl (may refl end))))))))
+  flush-answers = call-fair (flushNeeds (length m) v s bs) (starting s flush) (met (U .size) (met fits-with (may refl (may refl (may refl (may refl (may refl (may refl end))))))))
 
-  buffer-answers : Allowed h → (ks ws : List ℕ) (n : ℕ) → bufferOf (length m) v s bs ks ws ≡ refused n → expected n ≡ true
+  buffer-answers : (ks ws : List ℕ) (n : ℕ) → bufferOf (length m) v s bs ks ws ≡ refused n → expected n ≡ true
   unfolding bufferOf expected every
-  buffer-answers A ks ws =
+  buffer-answers ks ws =
       call-fair (bufferNeeds (length m) v s bs ks ws) (holding (bufferedIn bs ++ (zip ks ws ∷ [])))
-      (met (U .size) (met (fits-with A) (may refl (may refl (may refl (may refl (may refl (may refl (may refl end)))))))))
+      (met (U .size) (met fits-with (may refl (may refl (may refl (may refl (may refl (may refl (may refl end)))))))))
 
-  step-answers : Allowed h → (n : ℕ) → stepOf (length m) v s bs ≡ refused n → expected n ≡ true
-  step-answers A = go (stepOf (length m) v s bs) (step-ready v s h (U .coupled) r bs L A (length m) (U .size))
+  step-answers : (n : ℕ) → stepOf (length m) v s bs ≡ refused n → expected n ≡ true
+  step-answers = go (stepOf (length m) v s bs) (step-ready v s h (U .coupled) r bs L A (length m) (U .size))
     where
       go : (st : Answer Step) → StepReady v st → (n : ℕ) → st ≡ refused n → expected n ≡ true
       go (refused k) R n e = let q : k ≡ n = cc in let t : expected k ≡ true = unfold StepReady in R in rw q at t
@@ -353,14 +403,14 @@ module _ (m : List ℕ) (s : Held) (bs : List ℕ) (h : History) (U : Upheld (wo
       (λ q. call-fair (openingNeeds (length m) v s valve) _ (met (U .size) (met fits (met q (met (has-word valve q) end)))) n e)
       (λ q. let z : 18 ≡ n = same-refusal 18 n (rw (U .size, fits, q) at e) in rw (← z))
 
-  word-answers : Allowed h → (valve : ℕ) → expected (wordRefusal m v s bs valve) ≡ true
+  word-answers : (valve : ℕ) → expected (wordRefusal m v s bs valve) ≡ true
   unfolding wordRefusal sought soughtIn refusalOf answerOr under expected every
-  word-answers A valve = go (lastNaming valve 0 (changesOf (bufferedIn bs)))
+  word-answers valve = go (lastNaming valve 0 (changesOf (bufferedIn bs)))
     where
       go : (o : Option ℕ) → expected (refusalOf (need 1 (sizeOk (length m)) ∷ need 7 (fitWith v s bs) ∷ soughtIn v s bs valve o .needs)) ≡ true
-      go (some i) = by-cases (setsAt (changesOf (bufferedIn bs)) i) (λ e. rw (U .size, fits-with A, e)) (λ e. rw (U .size, fits-with A, e))
+      go (some i) = by-cases (setsAt (changesOf (bufferedIn bs)) i) (λ e. rw (U .size, fits-with, e)) (λ e. rw (U .size, fits-with, e))
       go none =
-          by-cases (isSome (lookup valve (s .index))) (λ e. rw (U .size, fits-with A, e, has-word valve e)) (λ e. rw (U .size, fits-with A, e))
+          by-cases (isSome (lookup valve (s .index))) (λ e. rw (U .size, fits-with, e, has-word valve e)) (λ e. rw (U .size, fits-with, e))
 
 -- ---- the theorem
 
@@ -368,23 +418,24 @@ pub steady : Steady
 unfolding Steady
 steady w h s R e = answers (w .medium) (w .buffer) (w .state) (reached-upheld w h R) (reached-ready w h R) (reached-allowed w h R) e
   where
-    answers : (m bs : List ℕ) (o : Option Held) → Upheld (world m o bs) h → StateReady (views m) o → Allowed h → o ≡ some s → Answers m s bs
+    answers : (m bs : List ℕ) (o : Option Held) → Upheld (world m o bs) h → StateReady (views m) o → StateAllowed o h → o ≡ some s → Answers m s bs
     answers m bs none U r A e = let z : _≡_ {A = ℕ} 0 1 = cc in absurd (omega arith)
     answers m bs (some t) U r A e =
         let q : t ≡ s = cc in
         let r′ : Ready (views m) t = unfold StateReady in r in
+        let A′ : Allowed h = unfold StateAllowed in A in
         rw (← q)
         (record {
-          append = append-answers m t bs h U r′ A;
-          commit = commit-answers m t bs h U r′ A;
-          collect = collect-answers m t bs h U r′ A;
-          buffer = buffer-answers m t bs h U r′ A;
-          flush = flush-answers m t bs h U r′ A;
-          step = step-answers m t bs h U r′ A;
-          opening = opening-answers m t bs h U r′;
-          word = word-answers m t bs h U r′ A;
-          settings = settings-answers m t bs h U r′;
-          pick = unfold pickOf in state-met m t bs h U r′ _;
-          survey = unfold surveyOf in state-met m t bs h U r′ _;
-          available = unfold availableOf in state-met m t bs h U r′ _;
+          append = append-answers m t bs h U r′ A′;
+          commit = commit-answers m t bs h U r′ A′;
+          collect = collect-answers m t bs h U r′ A′;
+          buffer = buffer-answers m t bs h U r′ A′;
+          flush = flush-answers m t bs h U r′ A′;
+          step = step-answers m t bs h U r′ A′;
+          opening = opening-answers m t bs h U r′ A′;
+          word = word-answers m t bs h U r′ A′;
+          settings = settings-answers m t bs h U r′ A′;
+          pick = unfold pickOf in state-met m t bs h U r′ A′ _;
+          survey = unfold surveyOf in state-met m t bs h U r′ A′ _;
+          available = unfold availableOf in state-met m t bs h U r′ A′ _;
         })

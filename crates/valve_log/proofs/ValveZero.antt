@@ -1,41 +1,41 @@
--- Point 3 of lists in which calls were made by the program as it was before Paper 8: those of its events that differ from today's keep the invariant.
+-- The list of the program as it was before Paper 8 keeps the invariant: its events that differ from today's do.
 use mathlib.Core.Path.{_≡_, refl}
-use mathlib.Core.Bool.{Bool, true, not, _||_}
+use mathlib.Core.Bool.{true, not, _||_}
 use mathlib.Core.Option.{Option, none, some}
-use mathlib.Core.List.{List, [], _∷_, _++_}
-use Prim.Native.Nat.{ℕ, _≤_, _<_}
+use mathlib.Core.List.{List, [], _∷_}
+use Prim.Native.Nat.{ℕ}
 use lib.Dec.{ltb, eqb}
 use lib.ListN.{length}
 use borrow.Author.Tests.{leb-true, ltb-true}
-use Rattle.lists.specs.Lists.{all, every}
-use Rattle.lists.specs.Needs.{need}
+use Rattle.lists.specs.Lists.{all}
+use Rattle.lists.specs.Needs.{Answer, refused, need}
 use Rattle.lists.specs.Cells.{Entry}
 use Rattle.lists.proofs.Laws.{by-cases, every-at, tests, all-weaken, checked-cases}
 use Rattle.page.specs.Pages.{View, pagesFor}
 use Rattle.page.specs.Rules.{entryOk}
-use Rattle.flash.specs.Medium.{mostPages, views}
+use Rattle.flash.specs.Medium.{views}
 use Rattle.blocks.specs.Blocks.{sizeOk}
-use Rattle.state.specs.State.{Pending, idle, append, commit, collect, format, flush, unnamed, Held, doneFit, pendingFit, isIdle, fitWith, bufferedIn}
+use Rattle.state.specs.State.{Pending, idle, append, commit, collect, format, flush, unnamed, Held, doneFit, isIdle, fitWith, bufferedIn}
 use Rattle.calls.specs.Calls.{starting, zip, appendNeeds, flushNeeds, bufferNeeds}
-use Rattle.step.specs.Step.{due, erasedFirst}
+use Rattle.step.specs.Step.{Step, due, erasedFirst}
 use Rattle.valve_log.specs.History.{History, tell}
-use Rattle.valve_log.specs.Reached.{World, world, withState, CutOf, stepped, Shows}
-use Rattle.valve_log.specs.ValveZero.{allowedBefore, with11, appendBefore, bufferBefore, flushBefore, pendingBefore, fitBefore, stepBefore, stepDueBefore, Earlier, happened, Kept, Point3Kept}
-use Rattle.valve_log.proofs.Small.{SmallWords, words-small}
-use Rattle.valve_log.proofs.Coupling.{Coupled, Fits, fits, Let-in, Awaited, awaited}
-use Rattle.valve_log.proofs.Lent.{Lent, lent-of, state-fit}
+use Rattle.valve_log.specs.Reached.{World, world, withState, CutOf, stepped, stepDueBefore, Earlier, happened, Before}
+use Rattle.valve_log.specs.ValveZero.{entryAllowedBefore, allowedBefore, with11, appendBefore, bufferBefore, flushBefore, pendingBefore, fitBefore, stepBefore}
+use Rattle.valve_log.proofs.Small.{words-small}
+use Rattle.valve_log.proofs.Coupling.{Fits, fits, Awaited, awaited}
+use Rattle.valve_log.proofs.Lent.{lent-of, state-fit}
 use Rattle.valve_log.proofs.Due.{Good, refused-good, awaited-good}
 use Rattle.valve_log.proofs.Events.{Upheld, Follows, few-views, append-good, flush-good, buffer-good, step-goes, cut-goes, happen-good}
-use Rattle.valve_log.proofs.Point3.{reached-upheld, upheld-shows}
+use Rattle.valve_log.proofs.Formats.{in-format, starts}
 
 -- that 11 gives the page rules of entries too
-one-lawful : (kind : ℕ) → eqb kind 1 || eqb kind 4 ≡ true → (e : Entry) → (ltb (e .key) 32768 || eqb (e .val) 0) ≡ true → entryOk kind e ≡ true
-unfolding entryOk
+one-lawful : (kind : ℕ) → eqb kind 1 || eqb kind 4 ≡ true → (e : Entry) → entryAllowedBefore e ≡ true → entryOk kind e ≡ true
+unfolding entryAllowedBefore entryOk
 one-lawful kind k e h = by-cases (ltb (e .key) 32768) (λ q. rw q) (λ q. rw (q, k) (rw q at h))
 
 before-lawful : (kind : ℕ) → eqb kind 1 || eqb kind 4 ≡ true → (es : List Entry) → allowedBefore es ≡ true → all (entryOk kind) es ≡ true
 unfolding allowedBefore
-before-lawful kind k es h = all-weaken (λ (e : Entry). ltb (e .key) 32768 || eqb (e .val) 0) (entryOk kind) (one-lawful kind k) es h
+before-lawful kind k es h = all-weaken entryAllowedBefore (entryOk kind) (one-lawful kind k) es h
 
 -- ---- the step
 
@@ -63,26 +63,31 @@ awaited-before v s gs unnamed f = tt
 fits-before : (v : List View) (s : Held) → Fits v (starting s idle) → Fits v s
 fits-before v s F = record { size = F .size; count = F .count; rise = F .rise; valve = F .valve; address = F .address; serial = F .serial }
 
-step-good : (n : ℕ) (v : List View) (s : Held) (b : List ℕ) (h : History) → SmallWords v → length v ≤ mostPages → Coupled v (some s) h → Lent s b h → Good v s b h (stepBefore n v s b)
+-- the step is refused, or it is the one due, and the state was fit
+before-cases : (P : Answer Step → Type 0) (n : ℕ) (v : List View) (s : Held) (b : List ℕ) → ((k : ℕ) → P (refused k))
+    → (Fits v s → Awaited v s (s .pending) → P (erasedFirst v s (due v s (bufferedIn b) (s .pending)))) → P (stepBefore n v s b)
 unfolding stepBefore
-step-good n v s b h texts few c L =
-    checked-cases (Good v s b h) (need 1 (sizeOk n) ∷ need 7 (fitBefore v s b) ∷ need 9 (not (isIdle (s .pending))) ∷ []) (erasedFirst v s (due v s (bufferedIn b) (s .pending))) (refused-good v s b h)
-    (λ e. given (unfold tests in every-at 1 _ e))
+before-cases P n v s b r g =
+    checked-cases P (need 1 (sizeOk n) ∷ need 7 (fitBefore v s b) ∷ need 9 (not (isIdle (s .pending))) ∷ [])
+    (erasedFirst v s (due v s (bufferedIn b) (s .pending))) r (λ e. given (unfold tests in every-at 1 _ e))
   where
-    given : fitBefore v s b ≡ true → Good v s b h (erasedFirst v s (due v s (bufferedIn b) (s .pending)))
+    given : fitBefore v s b ≡ true → P (erasedFirst v s (due v s (bufferedIn b) (s .pending)))
     given f =
         let rest : fitWith v (starting s idle) b ≡ true = unfold fitBefore in every-at 0 _ f in
-        awaited-good v s b h texts few c L (fits-before v s (fits v (starting s idle) (state-fit v (starting s idle) b rest)))
+        g (fits-before v s (fits v (starting s idle) (state-fit v (starting s idle) b rest)))
         (awaited-before v s (bufferedIn b) (s .pending) (unfold fitBefore in every-at 1 _ f))
 
 -- ---- any such event
 
 module _ (m : List ℕ) (s : Held) (b : List ℕ) (h : History) (U : Upheld (world m (some s) b) h) where
-  due-before : Good (views m) s b h (stepBefore (length m) (views m) s b)
-  due-before = step-good (length m) (views m) s b h (words-small m (U .guarded .bytes)) (few-views m (U .size)) (U .coupled) (lent-of (U .lending))
+  pub due-before : Good (views m) s b h (stepBefore (length m) (views m) s b)
+  due-before =
+      before-cases (Good (views m) s b h) (length m) (views m) s b (refused-good (views m) s b h)
+      (awaited-good (views m) s b h (words-small m (U .guarded .bytes)) (few-views m (U .size)) (U .coupled) (lent-of (U .lending)))
 
 happened-good : (m : List ℕ) (s : Option Held) (b : List ℕ) (h : History) (e : Earlier (world m s b)) → Upheld (world m s b) h → Follows h (happened (world m s b) e)
 unfolding happened withState stepDueBefore appendBefore bufferBefore flushBefore with11 tests
+happened-good m s b h (Earlier.same e) U = happen-good m s b h e U
 happened-good m none b h (Earlier.append ks ws x y) U = unfold tell in U
 happened-good m (some s) b h (Earlier.append ks ws x y) U =
     append-good m s b h U ks ws (with11 (zip ks ws) (appendNeeds (length m) (views m) s b ks ws)) (λ e. every-at 3 _ e) x y
@@ -97,11 +102,6 @@ happened-good m (some s) b h Earlier.step U = step-goes m s b h U (stepBefore (l
 happened-good m none b h (Earlier.cutInside left c) U = absurd (unfold CutOf in c)
 happened-good m (some s) b h (Earlier.cutInside left c) U = cut-goes m s b h U (stepBefore (length m) (views m) s b) (due-before m s b h U) left c
 
-kept-upheld : (w : World) (h : History) → Kept w h → Upheld w h
-kept-upheld w h (Kept.reached r) = reached-upheld w h r
-kept-upheld w h (Kept.next v g e k) = happen-good (v .medium) (v .state) (v .buffer) g e (kept-upheld v g k)
-kept-upheld w h (Kept.earlier v g e k) = happened-good (v .medium) (v .state) (v .buffer) g e (kept-upheld v g k)
-
-pub point3-kept : Point3Kept
-unfolding Point3Kept
-point3-kept w h k = upheld-shows w h (kept-upheld w h k)
+pub before-upheld : (w : World) (h : History) → Before w h → Upheld w h
+before-upheld w h (Before.start v F e) = starts (v .medium) (v .buffer) (v .state) (in-format v F) e .upheld
+before-upheld w h (Before.next v g e b) = happened-good (v .medium) (v .state) (v .buffer) g e (before-upheld v g b)

@@ -344,6 +344,7 @@ pub list-kept : (weak : Weak) (w : World) (h : History) (R : Reached w h) → Ke
 unfolding weakIn
 list-kept weak w h (Reached.start v F e) = event-kept (weakInFormat weak v F) (v .medium) (v .state) (v .buffer) Event.step (format-kept weak v F)
 list-kept weak w h (Reached.next v g e R) = event-kept (weakIn weak v g R) (v .medium) (v .state) (v .buffer) e (list-kept weak v g R)
+list-kept weak w h (Reached.takenOver b) = unfold Kept in tt
 
 programs-strong : (weak : Weak) (m : List ℕ) (s : Option Held) (bs : List ℕ) → Kept weak s → (p : ℕ) (pg : Page) (t : Held) (f : Bool)
     → stepDue (world m s bs) ≡ gives (Step.program p pg t f) → weak (p / 16) ≡ false

@@ -40,7 +40,7 @@ use Rattle.valve_log.proofs.Lent.{Lent, lent-of, lent-groups, with-fit}
 use Rattle.valve_log.proofs.Events.{Upheld}
 use Rattle.valve_log.proofs.Point3.{reached-upheld}
 use Rattle.valve_log.proofs.Ready.{Ready, fit-ready}
-use Rattle.valve_log.proofs.Allowed.{Allowed, reached-allowed}
+use Rattle.valve_log.proofs.Allowed.{Allowed, StateAllowed, reached-allowed}
 use Rattle.valve_log.proofs.Steady.{StateReady, reached-ready, has-word}
 
 -- ---- a valve in a list that rises
@@ -189,7 +189,7 @@ module _ (m : List ℕ) (s : Held) (bs : List ℕ) (h : History) (U : Upheld (wo
   L = lent-of (U .lending)
 
   fits-all : fitWith v s bs ≡ true
-  fits-all = with-fit v L A (fit-ready v s h (U .coupled) r)
+  fits-all = with-fit v L (A .gathers) (fit-ready v s h (U .coupled) A r)
 
   abbrev es : List Entry
   es = changesOf (h .buffered)
@@ -260,7 +260,7 @@ module _ (m : List ℕ) (s : Held) (bs : List ℕ) (h : History) (U : Upheld (wo
   some-there a q = rw q
 
   word-there : (a : ℕ) → lookup valve (s .index) ≡ some a → isSome (wordAt v (placeOf s valve)) ≡ true
-  word-there a q = has-word m s bs h U r valve (some-there a q)
+  word-there a q = has-word m s bs h U r A valve (some-there a q)
 
   medium-word : (a : ℕ) → lookup valve (s .index) ≡ some a → part (256 * (placeOf s valve .val / 24) + (64 + 8 * (placeOf s valve .val % 24))) 8 m ≡ bytesOf 8 (valueOr 0 (wordAt v (placeOf s valve)))
   medium-word a q = word-bytes m (placeOf s valve) (valueOr 0 (wordAt v (placeOf s valve))) (U .guarded .bytes) (there (wordAt v (placeOf s valve)) (word-there a q))
@@ -298,9 +298,9 @@ pub word-told : WordTold
 unfolding WordTold
 word-told w h s valve R e = answers (w .medium) (w .buffer) (w .state) (reached-upheld w h R) (reached-ready w h R) (reached-allowed w h R) e
   where
-    answers : (m bs : List ℕ) (o : Option Held) → Upheld (world m o bs) h → StateReady (views m) o → Allowed h → o ≡ some s → Tells m s bs h valve
+    answers : (m bs : List ℕ) (o : Option Held) → Upheld (world m o bs) h → StateReady (views m) o → StateAllowed o h → o ≡ some s → Tells m s bs h valve
     answers m bs none U r A e = let z : _≡_ {A = ℕ} 0 1 = cc in absurd (omega arith)
     answers m bs (some t) U r A e =
         let q : t ≡ s = cc in
         let r′ : Ready (views m) t = unfold StateReady in r in
-        rw (← q) (tells m t bs h U r′ A valve)
+        rw (← q) (tells m t bs h U r′ (unfold StateAllowed in A) valve)

@@ -1,18 +1,19 @@
 -- That the list of point 3 can start: formatting, begun on any medium of allowed length and stepped, is finished, by one step for each block
--- and one more. So point 3 speaks of some world for every such medium.
+-- and one more. So point 3 speaks of some world for every such medium. And it speaks of media that hold valve 0.
 use mathlib.Core.Path.{_≡_}
 use mathlib.Core.Bool.{true, false}
 use mathlib.Core.Option.{some}
-use mathlib.Core.List.{List}
-use Prim.Native.Nat.{ℕ, zero, suc, _/_, _≤_, _<_}
+use mathlib.Core.List.{List, [], _∷_}
+use Prim.Native.Nat.{ℕ, zero, suc, _/_, _^_, _≤_, _<_}
 use lib.ListN.{length}
 use Rattle.lists.specs.Lists.{Bytes}
 use Rattle.lists.specs.Needs.{refused, gives}
+use Rattle.lists.specs.Cells.{cell}
 use Rattle.blocks.specs.Blocks.{sizeOk}
 use Rattle.state.specs.State.{Held}
 use Rattle.calls.specs.Calls.{formatOf}
-use Rattle.valve_log.specs.History.{start as noHistory}
-use Rattle.valve_log.specs.Reached.{World, world, fresh, lentAnew, stepDue, Event, happen, finishes, Reached}
+use Rattle.valve_log.specs.History.{nothing, history, start as noHistory}
+use Rattle.valve_log.specs.Reached.{World, world, fresh, lentAnew, stepDue, Event, happen, finishes, Before, Reached}
 
 -- the world after n steps
 unfoldable pub stepsOn : ℕ → World → World
@@ -32,3 +33,13 @@ pub record Finished (m : List ℕ) : Type 0 where
 
 unfoldable pub FormattingFinishes : Type 0
 FormattingFinishes = (m : List ℕ) → Bytes m → sizeOk (length m) ≡ true → Finished m
+
+-- A list of the program as it was before Paper 8 leads to a log of one group, which set valve 0 to this word: nothing else is set, and nothing
+-- is under way or buffered. The list of point 3, and a run of the code, start on what it left (`takenOver`).
+pub record HoldsValveZero (word : ℕ) : Type 0 where
+  pub world : World
+  pub before : Before world (history (cell 0 word ∷ []) ((cell 0 word ∷ []) ∷ []) nothing [])
+
+-- "Media that hold it": each word, on each medium of four blocks
+unfoldable pub ValveZeroReached : Type 0
+ValveZeroReached = (m : List ℕ) → Bytes m → length m ≡ 16384 → (word : ℕ) → word < 2 ^ 64 → HoldsValveZero word

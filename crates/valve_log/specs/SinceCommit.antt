@@ -14,7 +14,7 @@ use Rattle.recovery.specs.Recovery.{recoveryWith, recover as recoverOf}
 use Rattle.effects.specs.Effects.{effect}
 use Rattle.valve_log.specs.History.{UnderWay, nothing, appending, committing, collecting, flushing, History, Told}
 use Rattle.valve_log.specs.History.{unchanged, beganAppend, beganCommit, beganCollect, putIn, beganFlush, steppedPage, steppedBlock, recovery}
-use Rattle.valve_log.specs.Reached.{World, happen, Reached, Words}
+use Rattle.valve_log.specs.Reached.{World, happen, happened, Before, Reached, Words}
 
 -- a commit has one page left, so that a step on a page finishes it and it counts
 unfoldable pub commitEndsNext : UnderWay → Bool
@@ -39,9 +39,14 @@ settingsAtCommit s h steppedBlock = s
 settingsAtCommit s h recovery = s
 
 -- along a list of calls and cuts; "none set before the first"
+unfoldable pub lastCommittedBefore : (w : World) (h : History) → Before w h → List Setting
+lastCommittedBefore w h (Before.start v F e) = []
+lastCommittedBefore w h (Before.next v g e b) = settingsAtCommit (lastCommittedBefore v g b) g (happened v e .told)
+
 unfoldable pub lastCommitted : (w : World) (h : History) → Reached w h → List Setting
 lastCommitted w h (Reached.start v F e) = []
 lastCommitted w h (Reached.next v g e r) = settingsAtCommit (lastCommitted v g r) g (happen v e .told)
+lastCommitted w h (Reached.takenOver {w = v} {h = g} b) = lastCommittedBefore v g b
 
 -- Recovery is accepted, and the effect of its whole log, laid on some settings, gives its valves, each with the word at its address.
 pub record Explains (m : List ℕ) (before : List Setting) : Type 0 where

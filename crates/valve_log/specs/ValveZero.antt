@@ -1,29 +1,29 @@
--- "Media that hold it recover, list and commit it as before until it is removed" (Paper 8): the list of calls and power cuts in which any call may
--- have been made by the program as it was before Paper 8, and point 3 about all of it. Then 11 was 01's alone: "removal whose word isn't 0".
+-- "Media that hold it recover, list and commit it as before until it is removed" (Paper 8): the calls of the program as it was before
+-- Paper 8, where they differ from today's. Then 11 was 01's alone: "removal whose word isn't 0". An append asked it, a group put into the
+-- buffer, a flush, and through 7 a step. Any other call that finds an operation pending is refused, now by 7 and then by 8, and changes nothing.
 use mathlib.Core.Bool.{Bool, true, false, not, cond, _||_}
 use mathlib.Core.List.{List, [], _∷_, _++_}
-use Prim.Native.Nat.{ℕ, _^_}
+use Prim.Native.Nat.{ℕ}
 use lib.Dec.{ltb, eqb}
 use lib.ListN.{length}
-use Rattle.lists.specs.Lists.{all, every, Below}
-use Rattle.lists.specs.Needs.{Answer, refused, Need, need, under, checked}
-use Rattle.lists.specs.Cells.{Entry, Place}
+use Rattle.lists.specs.Lists.{all, every}
+use Rattle.lists.specs.Needs.{Answer, Need, need, under, checked}
+use Rattle.lists.specs.Cells.{Entry}
 use Rattle.page.specs.Pages.{View, pagesFor, changesOf}
 use Rattle.page.specs.Buffer.{holding}
-use Rattle.flash.specs.Medium.{views}
 use Rattle.index.specs.Index.{within}
 use Rattle.blocks.specs.Blocks.{sizeOk}
 use Rattle.state.specs.State.{Pending, Held, countTests, doneFit, pendingFit, isIdle, noGroup, fitWith, bufferedIn}
 use Rattle.calls.specs.Calls.{starting, zip, appendNeeds, flushNeeds, bufferNeeds}
 use Rattle.step.specs.Step.{Step, due, erasedFirst}
-use Rattle.valve_log.specs.History.{History, beganAppend, putIn, beganFlush, tell}
-use Rattle.valve_log.specs.Reached.{World, withState, CutOf, Event, Moment, still, called, filled, stepped, cutShort, happen, Reached, Shows}
 
--- ---- the calls as they were
+-- an entry was allowed if it sets a valve, be it valve 0, or removes one with word 0
+unfoldable pub entryAllowedBefore : Entry → Bool
+entryAllowedBefore e = ltb (e .key) 32768 || eqb (e .val) 0
 
 -- 11 was the negation of this
 unfoldable pub allowedBefore : List Entry → Bool
-allowedBefore es = all (λ e. ltb (e .key) 32768 || eqb (e .val) 0) es
+allowedBefore es = all entryAllowedBefore es
 
 -- the conditions of a call, with that 11 of these entries
 unfoldable pub with11 : List Entry → List Need → List Need
@@ -59,36 +59,3 @@ unfoldable pub stepBefore : ℕ → List View → Held → List ℕ → Answer S
 stepBefore n v s b =
     under (need 1 (sizeOk n) ∷ need 7 (fitBefore v s b) ∷ need 9 (not (isIdle (s .pending))) ∷ [])
     (erasedFirst v s (due v s (bufferedIn b) (s .pending)))
-
-unfoldable pub stepDueBefore : World → Answer Step
-stepDueBefore w = withState (w .state) (refused 9) (λ s. stepBefore (length (w .medium)) (views (w .medium)) s (w .buffer))
-
--- ---- the list
-
--- what that program may do where the world is w; its other calls are today's
-pub data Earlier (w : World) : Type 0 where
-  append : (ks ws : List ℕ) → Below (2 ^ 16) ks → Below (2 ^ 64) ws → Earlier w
-  buffer : (ks ws : List ℕ) → Below (2 ^ 16) ks → Below (2 ^ 64) ws → Earlier w
-  flush : Earlier w
-  step : Earlier w
-  cutInside : (left : List ℕ) → CutOf (w .medium) (stepDueBefore w) left → Earlier w
-
--- what it leads to, as `happen` says of today's
-unfoldable pub happened : (w : World) → Earlier w → Moment
-happened w (append ks ws narrow small) =
-    withState (w .state) (still w) (λ s. called w (beganAppend (zip ks ws)) (appendBefore (length (w .medium)) (views (w .medium)) s (w .buffer) ks ws))
-happened w (buffer ks ws narrow small) =
-    withState (w .state) (still w) (λ s. filled w (putIn (zip ks ws)) (bufferBefore (length (w .medium)) (views (w .medium)) s (w .buffer) ks ws))
-happened w flush = withState (w .state) (still w) (λ s. called w beganFlush (flushBefore (length (w .medium)) (views (w .medium)) s (w .buffer)))
-happened w step = stepped w (stepDueBefore w)
-happened w (cutInside left allowed) = cutShort w left (stepDueBefore w)
-
--- a world and a history that a list leads to whose calls are each today's or that program's
-pub data Kept : World → History → Type 0 where
-  reached : {w : World} {h : History} → Reached w h → Kept w h
-  next : (w : World) (h : History) (e : Event w) → Kept w h → Kept (happen w e .after) (tell h (happen w e .told))
-  earlier : (w : World) (h : History) (e : Earlier w) → Kept w h → Kept (happened w e .after) (tell h (happened w e .told))
-
--- point 3: what it holds of valve 0 too is recovered, listed and committed
-unfoldable pub Point3Kept : Type 0
-Point3Kept = (w : World) (h : History) → Kept w h → Shows (w .medium) h

@@ -1,6 +1,6 @@
 -- Weak blocks, and that no step programs a page into one. "The chip maker's revised sheet says a block whose erase was cut can read FFh and
 -- still be weak": a block is weak if its last erase was cut. Which blocks are is followed beside the list of the valve log's statement. Of the
--- medium that formatting is begun on nothing is known: any blocks may be weak there.
+-- medium that formatting is begun on, and of one that the program before Paper 8 left, nothing is known: any blocks may be weak there.
 use mathlib.Core.Path.{_≡_}
 use mathlib.Core.Bool.{Bool, true, false, cond}
 use mathlib.Core.List.{List}
@@ -45,12 +45,13 @@ unfoldable pub weakInFormat : Weak → (w : World) → Formatting w → Weak
 weakInFormat weak w (Formatting.begun m s b bytes e) = weak
 weakInFormat weak w (Formatting.next v e F k) = weakAfter v e (weakInFormat weak v F)
 
--- and along the list that it starts
+-- and along the list that it starts, or of those that were weak on the medium taken over
 unfoldable pub weakIn : Weak → (w : World) (h : History) → Reached w h → Weak
 weakIn weak w h (Reached.start v F e) = weakAfter v Event.step (weakInFormat weak v F)
 weakIn weak w h (Reached.next v g e R) = weakAfter v e (weakIn weak v g R)
+weakIn weak w h (Reached.takenOver b) = weak
 
--- Where the step due programs a page, in formatting or after it, the page's block is not weak; whichever blocks were where formatting began.
+-- Where the step due programs a page, in formatting or after it, the page's block is not weak; whichever blocks were where the list began.
 pub record NeverWeak : Type 0 where
   pub in-format : (weak : Weak) (w : World) (F : Formatting w) (p : ℕ) (pg : Page) (s : Held) (finished : Bool)
       → stepDue w ≡ gives (Step.program p pg s finished) → weakInFormat weak w F (p / 16) ≡ false
