@@ -14,7 +14,7 @@ use borrow.Author.Tests.{eqb-true}
 use Rattle.lists.specs.Lists.{Bytes, every, allBelow, oneIf, all, countBelow, valueOr, table}
 use Rattle.lists.specs.Needs.{Answer, refused, gives, under}
 use Rattle.lists.specs.Cells.{keysOf, wordsOf}
-use Rattle.lists.proofs.Laws.{below-at, below-nil, below-cons, same-given}
+use Rattle.lists.proofs.Laws.{below-at, below-nil, below-cons}
 use Rattle.bits.specs.Bits.{bit, zeroBits, zeros}
 use Rattle.codec.specs.Codec.{putAt, blank, le, bytesOf, allOnes}
 use Rattle.codec.proofs.Put.{bytes-put}
@@ -34,16 +34,18 @@ use Rattle.state.specs.State.{flushOk, groupsFit, bufferFit, fitWith, bufferedI
 use Rattle.recovery.specs.Recovery.{Recovery, recover}
 use Rattle.calls.specs.Calls.{serialsFor, formatting, formatOf}
 use Rattle.step.specs.Step.{Step, formatted, erasing, programming, formatStep, due, programsDue, needsErase, erasedFirst, stepOf, mediumAfter, bufferAfter}
-use Rattle.valve_log.specs.History.{History, Told, beganAppend, beganCommit, putIn, beganFlush, tell, start}
-use Rattle.valve_log.specs.Reached.{World, world, withState, stepDue, CutOf, Event, called, filled, stepped, cutShort, recovered, happen, lentAnew, Reached, Point3}
-use Rattle.valve_log.specs.Finished.{stepsOn, Finished, FormattingFinishes}
+use Rattle.valve_log.specs.History.{History, Told, beganAppend, beganCommit, putIn, beganFlush, tell}
+use Rattle.valve_log.specs.Reached.{World, world, withState, stepDue, CutOf, Event, called, filled, stepped, cutShort, recovered, happen, lentAnew, stepDueBefore, happened, Before, switchedOff, Reached, Point3}
+use Rattle.valve_log.specs.ValveZero.{stepBefore}
+use Rattle.valve_log.specs.Finished.{stepsOn}
 use Rattle.valve_log.proofs.Due.{Good}
 use Rattle.valve_log.proofs.Events.{Upheld, Sized, sized, there, block-there, due-good}
-use Rattle.valve_log.proofs.Finished.{formatting-finishes}
+use Rattle.valve_log.proofs.Finished.{erasedAll, all-under-way, over}
+use Rattle.valve_log.proofs.ValveZero.{due-before, before-upheld}
 use Rattle.valve_log.proofs.Point3.{reached-upheld, point3}
 use Rattle.test_pages.specs.Table.{Journal, journal, agree}
 use Rattle.test_pages.specs.Table
-use Rattle.test_pages.specs.Tied.{Tells, Starts, TornSo, GoesWith, Tied, Shown}
+use Rattle.test_pages.specs.Tied.{Tells, Starts, TornSo, GoesWith, Tied, WentWith, TiedBefore, Shown}
 
 -- a medium of allowed length is as long as its pages
 long-as : (m : List ℕ) → sizeOk (length m) ≡ true → length m ≡ 256 * length (views m)
@@ -165,6 +167,13 @@ module _ (m : List ℕ) (p : ℕ) (pg : Page) (inside : 256 * p + 256 ≤ length
         outside = λ i o. put-outside m p tornPage inside torn-long i o;
       }
 
+-- a step that keeps the invariant is one within the medium
+good-within : (m : List ℕ) (s : Held) (b : List ℕ) (h : History) → Upheld (world m (some s) b) h → (a : Answer Step) → Good (views m) s b h a → Within m a
+unfolding Good
+good-within m s b h U (refused n) G = refuses n
+good-within m s b h U (gives (Step.program p pg s′ finished)) G = programs p pg s′ finished (there m s b h U p pg s′ G) (G .fits-in)
+good-within m s b h U (gives (Step.erase x s′ finished)) G = erases x s′ finished (block-there m s b h U x s′ G)
+
 -- ---- a world reached
 
 module _ (m : List ℕ) (s : Held) (b : List ℕ) (h : History) (R : Reached (world m (some s) b) h) where
@@ -174,14 +183,8 @@ module _ (m : List ℕ) (s : Held) (b : List ℕ) (h : History) (R : Reached (wo
   as-long : length m ≡ 256 * length (views m)
   as-long = long-as m (upheld .size)
 
-  good-within : (a : Answer Step) → Good (views m) s b h a → Within m a
-  unfolding Good
-  good-within (refused n) G = refuses n
-  good-within (gives (Step.program p pg s′ finished)) G = programs p pg s′ finished (there m s b h upheld p pg s′ G) (G .fits-in)
-  good-within (gives (Step.erase x s′ finished)) G = erases x s′ finished (block-there m s b h upheld x s′ G)
-
   due-within : Within m (stepOf (length m) (views m) s b)
-  due-within = good-within (stepOf (length m) (views m) s b) (due-good m s b h upheld)
+  due-within = good-within m s b h upheld (stepOf (length m) (views m) s b) (due-good m s b h upheld)
 
   -- as the table asks for the step, by the length of its pages
   step-within : Within m (Table.stepDue (journal (views m) s b))
@@ -255,6 +258,30 @@ tied w h j R T =
     let q : j ≡ journal (views (w .medium)) (j .state) (j .buffer) = rw (T .pages) in
     rw (p, q) (goes (w .medium) (j .state) (j .buffer) h (rw p at R))
 
+-- ---- the program as it was before Paper 8
+
+went-with : (m : List ℕ) (s : Held) (b : List ℕ) (h : History) → Before (world m (some s) b) h → WentWith (world m (some s) b) (journal (views m) s b)
+unfolding happened withState stepDueBefore
+went-with m s b h B =
+    record {
+      append = λ es narrow small. rw (← long) (called-so m s b long (beganAppend _) _);
+      step = rw (← long) (stepped-so m s b long (stepBefore (length m) (views m) s b) (good-within m s b h U (stepBefore (length m) (views m) s b) (due-before m s b h U)));
+      taken-over = recover-so (switchedOff (world m (some s) b)) h (journal (views m) s b) (Reached.takenOver B) refl long;
+    }
+  where
+    U : Upheld (world m (some s) b) h
+    U = before-upheld (world m (some s) b) h B
+
+    long : length m ≡ 256 * length (views m)
+    long = long-as m (U .size)
+
+tied-before : TiedBefore
+unfolding TiedBefore
+tied-before w h j B T =
+    let p : w ≡ world (w .medium) (some (j .state)) (j .buffer) = rw (T .state, T .buffer) in
+    let q : j ≡ journal (views (w .medium)) (j .state) (j .buffer) = rw (T .pages) in
+    rw (p, q) (went-with (w .medium) (j .state) (j .buffer) h (rw p at B))
+
 -- ---- where the table starts
 
 -- a medium of spoilt pages, all bytes 0
@@ -280,13 +307,6 @@ zero-bytes (suc n) = below-cons (omega arith) (zero-bytes n)
 
 size-ok : sizeOk (length unformatted) ≡ true
 size-ok = ap sizeOk long ∙ (unfold sizeOk every in refl)
-
-finished : Finished unformatted
-unfolding FormattingFinishes
-finished = formatting-finishes unformatted (zero-bytes 16384) size-ok
-
-begins-so : finished .state ≡ formatting 4
-begins-so = same-given (sym (finished .begun) ∙ ap formatOf long ∙ (unfold formatOf sizeOk every under in refl))
 
 -- the world where formatting begins, and the table's journal of it
 abbrev unerased : World
@@ -330,13 +350,22 @@ formatted-tells =
 four-blocks : length unformatted / 4096 ≡ 4
 four-blocks = ap (λ (n : ℕ). n / 4096) long
 
-format-reached : Reached (lentAnew (stepsOn 5 unerased)) start
-format-reached =
-    subst (λ (n : ℕ). Reached (lentAnew (stepsOn (suc n) unerased)) start) four-blocks
-    (subst (λ (s : Held). Reached (lentAnew (stepsOn (suc (length unformatted / 4096)) (world unformatted (some s) (blank 256)))) start) begins-so (finished .reached))
+-- all blocks are erased
+erased-all : erasedAll unformatted (zero-bytes 16384) size-ok ≡ stepsOn 4 unerased
+erased-all = ap (λ (n : ℕ). stepsOn n (world unformatted (some (formatting n)) (blank 256))) four-blocks
+
+last-tells : Tells (lentAnew (happen (stepsOn 4 unerased) Event.step .after)) Table.fresh
+unfolding stepsOn
+last-tells = formatted-tells
 
 starts : Starts
-starts = record { first = lentAnew (stepsOn 5 unerased); reached = format-reached; tells = formatted-tells }
+starts =
+    record {
+      before = erasedAll unformatted (zero-bytes 16384) size-ok;
+      under-way = all-under-way unformatted (zero-bytes 16384) size-ok;
+      last = over unformatted (zero-bytes 16384) size-ok;
+      tells = subst (λ (w : World). Tells (lentAnew (happen w Event.step .after)) Table.fresh) (sym erased-all) last-tells;
+    }
 
 pub shown : Shown
-shown = record { agrees = agree; starts = starts; goes = tied }
+shown = record { agrees = agree; starts = starts; goes = tied; went = tied-before }
