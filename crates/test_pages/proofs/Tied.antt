@@ -52,7 +52,8 @@ long-as : (m : List ℕ) → sizeOk (length m) ≡ true → length m ≡ 256 * l
 long-as m e = let z = sized (length m) e in let k = z .even in let l = length-views m in omega arith
 
 -- and so is one as long, with these pages
-long-with : (m m′ : List ℕ) (v : List View) → length m ≡ 256 * length (views m) → views m′ ≡ v → length m′ ≡ length m → length m′ ≡ 256 * length v
+long-with : (m m′ : List ℕ) (v : List View) → length m ≡ 256 * length (views m) → views m′ ≡ v → length m′ ≡ length m
+    → length m′ ≡ 256 * length v
 long-with m m′ v e p l = let a = ap length p in omega (arith, a, length-views m, length-views m′, l, e)
 
 -- ---- a step
@@ -60,7 +61,8 @@ long-with m m′ v e p l = let a = ap length p in omega (arith, a, length-views 
 -- a step touches a page or block of the medium, and what it programs fits a page
 data Within (m : List ℕ) : Answer Step → Type 0 where
   refuses : (n : ℕ) → Within m (refused n)
-  programs : (p : ℕ) (pg : Page) (s : Held) (finished : Bool) → 256 * p + 256 ≤ length m → Narrow pg → Within m (gives (Step.program p pg s finished))
+  programs : (p : ℕ) (pg : Page) (s : Held) (finished : Bool) → 256 * p + 256 ≤ length m → Narrow pg
+      → Within m (gives (Step.program p pg s finished))
   erases : (b : ℕ) (s : Held) (finished : Bool) → 4096 * b + 4096 ≤ length m → Within m (gives (Step.erase b s finished))
 
 module _ (m : List ℕ) (s : Held) (b : List ℕ) (as-long : length m ≡ 256 * length (views m)) where
@@ -88,17 +90,30 @@ module _ (m : List ℕ) (s : Held) (b : List ℕ) (as-long : length m ≡ 256 * 
   stepped-so a (refuses n) = now
   stepped-so a (programs p pg s′ finished inside narrow) =
       let v = program-views m p pg inside narrow in
-      record { pages = v; long = long-with m (programmed m p pg) _ as-long v (program-length m p pg inside (narrow .count)); state = refl; buffer = refl }
+      record {
+        pages = v;
+        long = long-with m (programmed m p pg) _ as-long v
+            (program-length m p pg inside (narrow .count));
+        state = refl;
+        buffer = refl;
+      }
   stepped-so a (erases x s′ finished inside) =
       let v = erase-views m x inside in
-      record { pages = v; long = long-with m (erased m x) _ as-long v (erase-length m x inside); state = refl; buffer = unfold bufferAfter in refl }
+      record {
+        pages = v;
+        long = long-with m (erased m x) _ as-long v
+            (erase-length m x inside);
+        state = refl;
+        buffer = unfold bufferAfter in refl;
+      }
 
   step-so : Within m (Table.stepDue j) → Tells (happen w Event.step .after) (Table.stepped j (Table.stepDue j))
   unfolding happen withState stepDue
   step-so i = rw (← as-long) (stepped-so (stepOf (length m) (views m) s b) (rw (← as-long) at i))
 
 -- the step of a world that the journal tells
-step-tells : (w : World) (j : Journal) → Tells w j → Within (w .medium) (Table.stepDue j) → Tells (happen w Event.step .after) (Table.stepped j (Table.stepDue j))
+step-tells : (w : World) (j : Journal) → Tells w j → Within (w .medium) (Table.stepDue j)
+    → Tells (happen w Event.step .after) (Table.stepped j (Table.stepDue j))
 step-tells w j T i =
     let p : w ≡ world (w .medium) (some (j .state)) (j .buffer) = rw (T .state, T .buffer) in
     let q : j ≡ journal (views (w .medium)) (j .state) (j .buffer) = rw (T .pages) in
@@ -108,7 +123,8 @@ step-tells w j T i =
 -- ---- a recovery
 
 -- whatever state was there or was lost
-recovered-so : (w : World) (j : Journal) → views (w .medium) ≡ j .pages → length (w .medium) ≡ Table.size j → (a : Answer Recovery) → ((n : ℕ) → a ≡ refused n → ⊥)
+recovered-so : (w : World) (j : Journal) → views (w .medium) ≡ j .pages → length (w .medium) ≡ Table.size j → (a : Answer Recovery)
+    → ((n : ℕ) → a ≡ refused n → ⊥)
     → Tells (recovered w a .after) (Table.withState j a)
 unfolding recovered
 recovered-so w j v l (refused n) f = absurd (f n refl)
@@ -121,7 +137,8 @@ accepted-there : (w : World) (h : History) → Reached w h → (n : ℕ) → rec
 unfolding Point3
 accepted-there w h R n e = given-not-refused n (sym (point3 w h R .accepts) ∙ e)
 
-recover-so : (w : World) (h : History) (j : Journal) → Reached w h → views (w .medium) ≡ j .pages → length (w .medium) ≡ Table.size j → Tells (happen w Event.recover .after) (Table.resumed j)
+recover-so : (w : World) (h : History) (j : Journal) → Reached w h → views (w .medium) ≡ j .pages → length (w .medium) ≡ Table.size j
+    → Tells (happen w Event.recover .after) (Table.resumed j)
 unfolding happen
 recover-so w h j R v l =
     let q : recover (length (w .medium)) (views (w .medium)) ≡ recover (Table.size j) (j .pages) = rw (l, v) in
@@ -150,12 +167,15 @@ module _ (m : List ℕ) (p : ℕ) (pg : Page) (inside : 256 * p + 256 ≤ length
   one : (k : ℕ) → k < 8 → bit k 255 ≡ 1
   one k l = eqb-true (bit k 255) 1 (below-at 8 (λ k. eqb (bit k 255) 1) (unfold allBelow bit in refl) k l)
 
-  each-bit : (i k : ℕ) → i < 256 → k < 8 → Dec (i ≡ 16) → (bitAt tornMedium (256 * p + i) k ≡ 1) ⊎ (bitAt tornMedium (256 * p + i) k ≡ bitAt (programmed m p pg) (256 * p + i) k)
+  each-bit : (i k : ℕ) → i < 256 → k < 8 → Dec (i ≡ 16)
+      → (bitAt tornMedium (256 * p + i) k ≡ 1) ⊎ (bitAt tornMedium (256 * p + i) k ≡ bitAt (programmed m p pg) (256 * p + i) k)
   unfolding bitAt programmed
   each-bit i k l b (yes e) =
-      inl (ap (bit k) (put-inside m p tornPage inside torn-long i l ∙ ap (λ (x : ℕ). getD tornPage x 0) e ∙ getD-set-same (encode pg) 16 255 0 (omega (arith, whole-long))) ∙ one k b)
+      inl (ap (bit k) (put-inside m p tornPage inside torn-long i l ∙ ap (λ (x : ℕ). getD tornPage x 0) e
+      ∙ getD-set-same (encode pg) 16 255 0 (omega (arith, whole-long))) ∙ one k b)
   each-bit i k l b (no n) =
-      inr (ap (bit k) (put-inside m p tornPage inside torn-long i l ∙ getD-set-other (encode pg) 16 i 255 0 n ∙ sym (put-inside m p (encode pg) inside whole-long i l)))
+      inr (ap (bit k) (put-inside m p tornPage inside torn-long i l ∙ getD-set-other (encode pg) 16 i 255 0 n
+      ∙ sym (put-inside m p (encode pg) inside whole-long i l)))
 
   torn-allowed : Bytes m → CutProgram m p pg tornMedium
   unfolding CutProgram
@@ -163,12 +183,14 @@ module _ (m : List ℕ) (p : ℕ) (pg : Page) (inside : 256 * p + 256 ≤ length
       record {
         size = put-length m p tornPage inside torn-long;
         bytes = bytes-put m (256 * p) tornPage bs (record { each = λ k. byte-small k (ℕ-discrete k 16) });
-        inside = λ i k low high b. let z : 256 * p + (i - 256 * p) ≡ i = omega arith in rw z at (each-bit (i - 256 * p) k (omega arith) b (ℕ-discrete (i - 256 * p) 16));
+        inside = λ i k low high b. let z : 256 * p + (i - 256 * p) ≡ i = omega arith in rw z at
+            (each-bit (i - 256 * p) k (omega arith) b (ℕ-discrete (i - 256 * p) 16));
         outside = λ i o. put-outside m p tornPage inside torn-long i o;
       }
 
 -- a step that keeps the invariant is one within the medium
-good-within : (m : List ℕ) (s : Held) (b : List ℕ) (h : History) → Upheld (world m (some s) b) h → (a : Answer Step) → Good (views m) s b h a → Within m a
+good-within : (m : List ℕ) (s : Held) (b : List ℕ) (h : History) → Upheld (world m (some s) b) h → (a : Answer Step)
+    → Good (views m) s b h a → Within m a
 unfolding Good
 good-within m s b h U (refused n) G = refuses n
 good-within m s b h U (gives (Step.program p pg s′ finished)) G = programs p pg s′ finished (there m s b h U p pg s′ G) (G .fits-in)
@@ -190,16 +212,19 @@ module _ (m : List ℕ) (s : Held) (b : List ℕ) (h : History) (R : Reached (wo
   step-within : Within m (Table.stepDue (journal (views m) s b))
   step-within = subst (λ (n : ℕ). Within m (stepOf n (views m) s b)) as-long due-within
 
-  torn-so : (p : ℕ) (pg : Page) (s′ : Held) (finished : Bool) → Table.stepDue (journal (views m) s b) ≡ gives (Step.program p pg s′ finished)
+  torn-so : (p : ℕ) (pg : Page) (s′ : Held) (finished : Bool)
+      → Table.stepDue (journal (views m) s b) ≡ gives (Step.program p pg s′ finished)
       → TornSo (world m (some s) b) (journal (views m) s b)
   torn-so p pg s′ finished e =
       record {
         left = left;
         allowed = allowed;
         goes-on =
-            recover-so (happen (world m (some s) b) cuts .after) (tell h (happen (world m (some s) b) cuts .told)) (Table.torn (journal (views m) s b)) (Reached.next (world m (some s) b) h cuts R)
+            recover-so (happen (world m (some s) b) cuts .after) (tell h (happen (world m (some s) b) cuts .told))
+            (Table.torn (journal (views m) s b)) (Reached.next (world m (some s) b) h cuts R)
             (ap (λ (x : World). views (x .medium)) after-is ∙ sees ∙ ap (λ (x : Journal). x .pages) (sym torn-is))
-            (ap (λ (x : World). length (x .medium)) after-is ∙ long-with m left _ as-long sees (put-length m p (tornPage m p pg inside narrow) inside (torn-long m p pg inside narrow))
+            (ap (λ (x : World). length (x .medium)) after-is
+            ∙ long-with m left _ as-long sees (put-length m p (tornPage m p pg inside narrow) inside (torn-long m p pg inside narrow))
             ∙ ap (λ (x : Journal). Table.size x) (sym torn-is));
       }
     where
@@ -219,7 +244,8 @@ module _ (m : List ℕ) (s : Held) (b : List ℕ) (h : History) (R : Reached (wo
       due-is = unfold stepDue withState in (ap (λ (n : ℕ). stepOf n (views m) s b) as-long ∙ e)
 
       allowed : CutOf m (stepDue (world m (some s) b)) left
-      allowed = subst (λ (a : Answer Step). CutOf m a left) (sym due-is) (unfold CutOf in torn-allowed m p pg inside narrow (upheld .guarded .bytes))
+      allowed = subst (λ (a : Answer Step). CutOf m a left) (sym due-is)
+          (unfold CutOf in torn-allowed m p pg inside narrow (upheld .guarded .bytes))
 
       cuts : Event (world m (some s) b)
       cuts = Event.cutInside left allowed
@@ -235,7 +261,8 @@ module _ (m : List ℕ) (s : Held) (b : List ℕ) (h : History) (R : Reached (wo
 
   cut-between : Tells (happen (happen (world m (some s) b) Event.cut .after) Event.recover .after) (Table.resumed (journal (views m) s b))
   cut-between =
-      recover-so (happen (world m (some s) b) Event.cut .after) (tell h (happen (world m (some s) b) Event.cut .told)) (journal (views m) s b) (Reached.next (world m (some s) b) h Event.cut R)
+      recover-so (happen (world m (some s) b) Event.cut .after) (tell h (happen (world m (some s) b) Event.cut .told))
+      (journal (views m) s b) (Reached.next (world m (some s) b) h Event.cut R)
       (unfold happen in refl) (unfold happen in as-long)
 
   goes : GoesWith (world m (some s) b) (journal (views m) s b)
@@ -260,12 +287,14 @@ tied w h j R T =
 
 -- ---- the program as it was before Paper 8
 
-went-with : (m : List ℕ) (s : Held) (b : List ℕ) (h : History) → Before (world m (some s) b) h → WentWith (world m (some s) b) (journal (views m) s b)
+went-with : (m : List ℕ) (s : Held) (b : List ℕ) (h : History) → Before (world m (some s) b) h
+    → WentWith (world m (some s) b) (journal (views m) s b)
 unfolding happened withState stepDueBefore
 went-with m s b h B =
     record {
       append = λ es narrow small. rw (← long) (called-so m s b long (beganAppend _) _);
-      step = rw (← long) (stepped-so m s b long (stepBefore (length m) (views m) s b) (good-within m s b h U (stepBefore (length m) (views m) s b) (due-before m s b h U)));
+      step = rw (← long) (stepped-so m s b long (stepBefore (length m) (views m) s b)
+          (good-within m s b h U (stepBefore (length m) (views m) s b) (due-before m s b h U)));
       taken-over = recover-so (switchedOff (world m (some s) b)) h (journal (views m) s b) (Reached.takenOver B) refl long;
     }
   where
@@ -320,25 +349,38 @@ unfolding formatOf sizeOk every under
 format-tells = record { pages = sees-spoilt; long = long; state = refl; buffer = refl }
 
 -- a step of formatting on 64 pages: an erase, and the page
-erase-tells : (w : World) (j : Journal) (k : ℕ) (s : Held) → Tells w j → Table.size j ≡ 16384 → k < 4 → Table.stepDue j ≡ gives (Step.erase k s false)
+erase-tells : (w : World) (j : Journal) (k : ℕ) (s : Held) → Tells w j → Table.size j ≡ 16384 → k < 4
+    → Table.stepDue j ≡ gives (Step.erase k s false)
     → Tells (happen w Event.step .after) (Table.stepped j (Table.stepDue j))
 erase-tells w j k s T l few e = step-tells w j T (rw e (erases k s false (omega (arith, T .long, l))))
 
-page-tells : (w : World) (j : Journal) (pg : Page) (s : Held) → Tells w j → Table.size j ≡ 16384 → Narrow pg → Table.stepDue j ≡ gives (Step.program 0 pg s true)
+page-tells : (w : World) (j : Journal) (pg : Page) (s : Held) → Tells w j → Table.size j ≡ 16384 → Narrow pg
+    → Table.stepDue j ≡ gives (Step.program 0 pg s true)
     → Tells (happen w Event.step .after) (Table.stepped j (Table.stepDue j))
 page-tells w j pg s T l narrow e = step-tells w j T (rw e (programs 0 pg s true (omega (arith, T .long, l)) narrow))
 
 narrow-base : Narrow (page 2 3 1 [])
 unfolding keysOf wordsOf
 narrow-base =
-    record { kind = omega arith; flags = omega arith; count = omega arith; serial = omega arith; marks = omega arith; keys = below-nil (omega arith); words = below-nil (omega arith); tidy = refl }
+    record {
+      kind = omega arith;
+      flags = omega arith;
+      count = omega arith;
+      serial = omega arith;
+      marks = omega arith;
+      keys = below-nil
+          (omega arith);
+      words = below-nil (omega arith);
+      tidy = refl;
+    }
 
 -- four erases and the page
 formatted-tells : Tells (lentAnew (stepsOn 5 unerased)) Table.fresh
 unfolding
-    stepsOn Table.steps every all allBelow oneIf valueOr under sizeOk putAt seen isClean whollyClean headFit placeFit indexFit groupOk basePages doneFit formatFit pendingFit fit
-    isIdle flushOk groupsFit bufferFit fitWith bufferedIn inMaking gathered Buffer.holding rising risingFrom formatting formatOf formatted serialsFor programming formatStep due stepOf
-    noneErased wasErased nowErased erasing programsDue needsErase erasedFirst bufferAfter blank allOnes cleanBytes
+    stepsOn Table.steps every all allBelow oneIf valueOr under sizeOk putAt seen isClean whollyClean headFit placeFit indexFit groupOk
+    basePages doneFit formatFit pendingFit fit isIdle flushOk groupsFit bufferFit fitWith bufferedIn inMaking gathered Buffer.holding
+    rising risingFrom formatting formatOf formatted serialsFor programming formatStep due stepOf noneErased wasErased nowErased erasing
+    programsDue needsErase erasedFirst bufferAfter blank allOnes cleanBytes
 formatted-tells =
     let T₁ = erase-tells unerased begunFormat 0 _ format-tells refl (omega arith) refl in
     let T₂ = erase-tells _ _ 1 _ T₁ refl (omega arith) refl in

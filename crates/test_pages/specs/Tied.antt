@@ -1,4 +1,5 @@
--- The journals of the table and the worlds of the valve log's statement: what the table makes of views is what `happen` makes of the medium's bytes.
+-- The journals of the table and the worlds of the valve log's statement: what the table makes of views is what `happen` makes of the
+-- medium's bytes.
 use mathlib.Core.Path.{_≡_}
 use mathlib.Core.Bool.{Bool, true}
 use mathlib.Core.Option.{some}
@@ -23,7 +24,8 @@ pub record Tells (w : World) (j : Journal) : Type 0 where
   pub state : w .state ≡ some (j .state)
   pub buffer : w .buffer ≡ j .buffer
 
--- The table's first journal is a world where a list of the valve log's statement starts: formatting is under way, and its next step finishes it.
+-- The table's first journal is a world where a list of the valve log's statement starts: formatting is under way, and its next step
+-- finishes it.
 pub record Starts : Type 0 where
   pub before : World
   pub under-way : Formatting before
@@ -36,11 +38,14 @@ pub record TornSo (w : World) (j : Journal) : Type 0 where
   pub allowed : CutOf (w .medium) (stepOfWorld w) left
   pub goes-on : Tells (happen (happen w (Event.cutInside left allowed) .after) Event.recover .after) (resumed (torn j))
 
--- The journal after each of the table's calls, steps, cuts and recoveries is that of the world after the same event. After a cut a recovery comes next.
+-- The journal after each of the table's calls, steps, cuts and recoveries is that of the world after the same event. After a cut a
+-- recovery comes next.
 pub record GoesWith (w : World) (j : Journal) : Type 0 where
-  pub append : (es : List Entry) (narrow : Below (2 ^ 16) (keysOf es)) (small : Below (2 ^ 64) (wordsOf es)) → Tells (happen w (Event.append (keysOf es) (wordsOf es) narrow small) .after) (begin j es)
+  pub append : (es : List Entry) (narrow : Below (2 ^ 16) (keysOf es)) (small : Below (2 ^ 64) (wordsOf es))
+      → Tells (happen w (Event.append (keysOf es) (wordsOf es) narrow small) .after) (begin j es)
   pub commit : Tells (happen w Event.commit .after) (beginCommit j)
-  pub buffering : (es : List Entry) (narrow : Below (2 ^ 16) (keysOf es)) (small : Below (2 ^ 64) (wordsOf es)) → Tells (happen w (Event.buffer (keysOf es) (wordsOf es) narrow small) .after) (buffered j es)
+  pub buffering : (es : List Entry) (narrow : Below (2 ^ 16) (keysOf es)) (small : Below (2 ^ 64) (wordsOf es))
+      → Tells (happen w (Event.buffer (keysOf es) (wordsOf es) narrow small) .after) (buffered j es)
   pub flush : Tells (happen w Event.flush .after) (beginFlush j)
   pub step : Tells (happen w Event.step .after) (stepped j (stepDue j))
   pub cut-between : Tells (happen (happen w Event.cut .after) Event.recover .after) (resumed j)
@@ -49,9 +54,11 @@ pub record GoesWith (w : World) (j : Journal) : Type 0 where
 unfoldable pub Tied : Type 0
 Tied = (w : World) (h : History) (j : Journal) → Reached w h → Tells w j → GoesWith w j
 
--- The same of the program as it was before Paper 8, by which the table sets valve 0: its append and its step, and today's recovery of what it left.
+-- The same of the program as it was before Paper 8, by which the table sets valve 0: its append and its step, and today's recovery of
+-- what it left.
 pub record WentWith (w : World) (j : Journal) : Type 0 where
-  pub append : (es : List Entry) (narrow : Below (2 ^ 16) (keysOf es)) (small : Below (2 ^ 64) (wordsOf es)) → Tells (happened w (Earlier.append (keysOf es) (wordsOf es) narrow small) .after) (beginBefore j es)
+  pub append : (es : List Entry) (narrow : Below (2 ^ 16) (keysOf es)) (small : Below (2 ^ 64) (wordsOf es))
+      → Tells (happened w (Earlier.append (keysOf es) (wordsOf es) narrow small) .after) (beginBefore j es)
   pub step : Tells (happened w Earlier.step .after) (stepped j (stepDueBefore j))
   pub taken-over : Tells (happen (switchedOff w) Event.recover .after) (resumed j)
 
