@@ -17,8 +17,8 @@ numbersOf (c ∷ cs) = c .number ∷ numbersOf cs
 unfoldable pub refusalIn : {A : Type 0} → Answer A → ℕ
 refusalIn a = answerOr (λ n. n) (andThen a (λ x. gives 0))
 
--- A call with this answer asks these conditions: it is refused with the number of the first that does not hold, and with none where all hold; and
--- these are their numbers, in order.
+-- A call with this answer asks these conditions: it is refused with the number of the first that does not hold, and with none where all
+-- hold; and these are their numbers, in order.
 pub record Asks {A : Type 0} (answer : Answer A) (needs : List Need) (numbers : List ℕ) : Type 0 where
   pub first : refusalIn answer ≡ refusalOf needs
   pub order : numbersOf needs ≡ numbers

@@ -43,7 +43,14 @@ turnedUp : List ℕ → ℕ → ℕ → Bool
 turnedUp s i x = allBelow 8 (λ j. eqb (bit j x) 1 || eqb (bit j x) (bit j (getD s i 0)))
 
 byte-fades : (s : List ℕ) (i x : ℕ) → Bytes s → x < 256 → turnedUp s i x ≡ true → Faded s (set s i x)
-byte-fades s i x bs small up = record { size = length-set s i x; bytes = record { each = λ k. byte k (ℕ-discrete k i) }; bits = λ k j l b. unfold bitAt in bits k j l b (ℕ-discrete k i) }
+byte-fades s i x bs small up = record {
+  size = length-set s i x;
+  bytes = record {
+    each = λ k. byte k
+        (ℕ-discrete k i);
+  };
+  bits = λ k j l b. unfold bitAt in bits k j l b (ℕ-discrete k i);
+}
   where
     byte : (k : ℕ) → Dec (k ≡ i) → getD (set s i x) k 0 < 256
     byte k (no n) = let e = getD-set-other s i k x 0 n in omega (arith, e, bs .each k)
@@ -58,7 +65,8 @@ byte-fades s i x bs small up = record { size = length-set s i x; bytes = record 
         let t = below-at 8 (λ j. eqb (bit j x) 1 || eqb (bit j x) (bit j (getD s i 0))) (unfold turnedUp in up) j l in
         by-cases (eqb (bit j x) 1) (λ e. inl (eqb-true (bit j x) 1 e)) (λ e. inr (eqb-true (bit j x) (bit j (getD s i 0)) (rw e at t)))
 
-    bits : (k j : ℕ) → k < length s → j < 8 → Dec (k ≡ i) → (bit j (getD (set s i x) k 0) ≡ 1) ⊎ (bit j (getD (set s i x) k 0) ≡ bit j (getD s k 0))
+    bits : (k j : ℕ) → k < length s → j < 8 → Dec (k ≡ i)
+        → (bit j (getD (set s i x) k 0) ≡ 1) ⊎ (bit j (getD (set s i x) k 0) ≡ bit j (getD s k 0))
     bits k j l b (no n) = inr (ap (bit j) (getD-set-other s i k x 0 n))
     bits k j l b (yes e) = let q : getD (set s i x) i 0 ≡ x = getD-set-same s i x 0 (omega (arith, e)) in rw (e, q) (one-bit j b)
 
@@ -87,7 +95,8 @@ unwritten =
       long = length-blank 16384;
       bytes = bytes-blank 16384;
       pages =
-          views-alike (blank 16384) (blank 256) (length-blank 256) (λ p i there l. get-blank 16384 (256 * p + i) 0 (omega (arith, length-blank 16384)) ∙ sym (get-blank 256 i 0 l))
+          views-alike (blank 16384) (blank 256) (length-blank 256)
+          (λ p i there l. get-blank 16384 (256 * p + i) 0 (omega (arith, length-blank 16384)) ∙ sym (get-blank 256 i 0 l))
           ∙ ap (λ (n : ℕ). replicate (n / 256) (viewOf (blank 256))) (length-blank 16384) ∙ ap (λ (x : View). replicate 64 x) blank-clean;
       encoded = λ p pg e. none p pg (decLt p 64) e;
     }
@@ -95,7 +104,8 @@ unwritten =
     none : (p : ℕ) (pg : Page) → Dec (p < 64) → seen (replicate 64 clean) p ≡ whole pg → pageAt (blank 16384) p ≡ encode pg
     none p pg (yes l) e = not-whole pg (sym (getD-replicate {A = View} 64 p clean spoilt l) ∙ e)
     none p pg (no l) e =
-        spoilt-not-whole pg (sym (List·getD-eq-default (replicate 64 clean) spoilt {n = p} (omega (arith, length-replicate {A = View} 64 clean))) ∙ e)
+        spoilt-not-whole pg (sym (List·getD-eq-default (replicate 64 clean) spoilt {n = p}
+        (omega (arith, length-replicate {A = View} 64 clean))) ∙ e)
 
 -- one page more programmed
 more : (v : List View) (p : ℕ) (pg : Page) → p < 64 → Narrow pg → Medium v → Medium (set v p (whole pg))
@@ -126,22 +136,29 @@ more v p pg l n M =
 -- ---- a byte of it faded
 
 -- a byte altered is its page altered
-set-in-page : (m : List ℕ) (p i x : ℕ) (s : List ℕ) → 256 * p + 256 ≤ length m → i < 256 → pageAt m p ≡ s → length s ≡ 256 → set m (256 * p + i) x ≡ putAt m (256 * p) (set s i x)
+set-in-page : (m : List ℕ) (p i x : ℕ) (s : List ℕ) → 256 * p + 256 ≤ length m → i < 256 → pageAt m p ≡ s → length s ≡ 256
+    → set m (256 * p + i) x ≡ putAt m (256 * p) (set s i x)
 set-in-page m p i x s there l e long =
-    ext-getD 0 (set m (256 * p + i) x) (putAt m (256 * p) (set s i x)) (length-set m (256 * p + i) x ∙ sym (put-length m p (set s i x) there (length-set s i x ∙ long)))
+    ext-getD 0 (set m (256 * p + i) x) (putAt m (256 * p) (set s i x))
+    (length-set m (256 * p + i) x ∙ sym (put-length m p (set s i x) there (length-set s i x ∙ long)))
     (λ k h. go k (ℕ-discrete k (256 * p + i)) (decLt k (256 * p)) (decLt k (256 * p + 256)))
   where
-    outside : (k : ℕ) → (k ≡ 256 * p + i → ⊥) → (k < 256 * p) ⊎ (256 * p + 256 ≤ k) → getD (set m (256 * p + i) x) k 0 ≡ getD (putAt m (256 * p) (set s i x)) k 0
+    outside : (k : ℕ) → (k ≡ 256 * p + i → ⊥) → (k < 256 * p) ⊎ (256 * p + 256 ≤ k)
+        → getD (set m (256 * p + i) x) k 0 ≡ getD (putAt m (256 * p) (set s i x)) k 0
     outside k n o = getD-set-other m (256 * p + i) k x 0 n ∙ sym (put-outside m p (set s i x) there (length-set s i x ∙ long) k o)
 
-    inside : (j : ℕ) → j < 256 → (j ≡ i → ⊥) → getD (set m (256 * p + i) x) (256 * p + j) 0 ≡ getD (putAt m (256 * p) (set s i x)) (256 * p + j) 0
+    inside : (j : ℕ) → j < 256 → (j ≡ i → ⊥)
+        → getD (set m (256 * p + i) x) (256 * p + j) 0 ≡ getD (putAt m (256 * p) (set s i x)) (256 * p + j) 0
     inside j b n =
-        getD-set-other m (256 * p + i) (256 * p + j) x 0 (λ z. n (omega arith)) ∙ sym (get-page m p j there b) ∙ ap (λ (t : List ℕ). getD t j 0) e
+        getD-set-other m (256 * p + i) (256 * p + j) x 0 (λ z. n (omega arith)) ∙ sym (get-page m p j there b)
+        ∙ ap (λ (t : List ℕ). getD t j 0) e
         ∙ sym (getD-set-other s i j x 0 n) ∙ sym (put-inside m p (set s i x) there (length-set s i x ∙ long) j b)
 
-    go : (k : ℕ) → Dec (k ≡ 256 * p + i) → Dec (k < 256 * p) → Dec (k < 256 * p + 256) → getD (set m (256 * p + i) x) k 0 ≡ getD (putAt m (256 * p) (set s i x)) k 0
+    go : (k : ℕ) → Dec (k ≡ 256 * p + i) → Dec (k < 256 * p) → Dec (k < 256 * p + 256)
+        → getD (set m (256 * p + i) x) k 0 ≡ getD (putAt m (256 * p) (set s i x)) k 0
     go k (yes q) a b =
-        rw q (getD-set-same m (256 * p + i) x 0 (omega arith) ∙ sym (getD-set-same s i x 0 (omega (arith, long))) ∙ sym (put-inside m p (set s i x) there (length-set s i x ∙ long) i l))
+        rw q (getD-set-same m (256 * p + i) x 0 (omega arith) ∙ sym (getD-set-same s i x 0 (omega (arith, long)))
+        ∙ sym (put-inside m p (set s i x) there (length-set s i x ∙ long) i l))
     go k (no q) (yes a) b = outside k q (inl a)
     go k (no q) (no a) (no b) = outside k q (inr (omega arith))
     go k (no q) (no a) (yes b) =
@@ -149,7 +166,8 @@ set-in-page m p i x s there l e long =
         rw z at (inside (k - 256 * p) (omega arith) (λ n. q (omega arith)))
 
 -- byte i of a whole page p fades to x
-fades : (v : List View) (p i x : ℕ) (pg : Page) (answer : Answer LogAndSettings) → Medium v → p < 64 → i < 256 → x < 256 → seen v p ≡ whole pg → length (pg .entries) ≤ 24
+fades : (v : List View) (p i x : ℕ) (pg : Page) (answer : Answer LogAndSettings) → Medium v → p < 64 → i < 256 → x < 256
+    → seen v p ≡ whole pg → length (pg .entries) ≤ 24
     → turnedUp (encode pg) i x ≡ true → shownOf (set v p (viewOf (set (encode pg) i x))) ≡ answer → FadedGives p i x v answer
 unfolding turnedUp
 fades v p i x pg answer M in-medium in-page small e few up gives-so =
@@ -168,7 +186,8 @@ fades v p i x pg answer M in-medium in-page small e few up gives-so =
 
     turned : turnedUp (M .medium) (256 * p + i) x ≡ true
     turned =
-        let q : getD (M .medium) (256 * p + i) 0 ≡ getD (encode pg) i 0 = sym (get-page (M .medium) p i there in-page) ∙ ap (λ (t : List ℕ). getD t i 0) page-so in
+        let q : getD (M .medium) (256 * p + i) 0 ≡ getD (encode pg) i 0 = sym (get-page (M .medium) p i there in-page)
+        ∙ ap (λ (t : List ℕ). getD t i 0) page-so in
         rw q up
 
     long : length (set (encode pg) i x) ≡ 256
@@ -177,12 +196,14 @@ fades v p i x pg answer M in-medium in-page small e few up gives-so =
     seen-so : views (set (M .medium) (256 * p + i) x) ≡ set v p (viewOf (set (encode pg) i x))
     seen-so =
         ap views (set-in-page (M .medium) p i x (encode pg) there in-page page-so (length-encode pg few))
-        ∙ put-views (M .medium) p (set (encode pg) i x) there long ∙ ap (λ (w : List View). set w p (viewOf (set (encode pg) i x))) (M .pages)
+        ∙ put-views (M .medium) p (set (encode pg) i x) there long
+        ∙ ap (λ (w : List View). set w p (viewOf (set (encode pg) i x))) (M .pages)
 
 -- ---- the examples
 
 -- the fields of a page have room for these
-narrow-page : (kind flags serial : ℕ) (es : List Entry) → kind < 256 → flags < 256 → serial < 2 ^ 64 → length es ≤ 24 → Below 65536 (keysOf es) → Below (2 ^ 64) (wordsOf es)
+narrow-page : (kind flags serial : ℕ) (es : List Entry) → kind < 256 → flags < 256 → serial < 2 ^ 64 → length es ≤ 24
+    → Below 65536 (keysOf es) → Below (2 ^ 64) (wordsOf es)
     → Narrow (page kind flags serial es)
 narrow-page kind flags serial es a b c d ks ws =
     record { kind = a; flags = b; count = d; serial = c; marks = omega arith; keys = ks; words = ws; tidy = refl }
@@ -206,26 +227,31 @@ flushPage = groupsPage 5 ((cell 8 30 ∷ []) ∷ (cell 7 40 ∷ []) ∷ [])
 -- the medium after each of them
 after-format : Medium (written 1)
 unfolding keysOf wordsOf
-after-format = more (replicate 64 clean) 0 formatPage (omega arith) (narrow-page 2 3 1 [] (omega arith) (omega arith) (omega arith) (omega arith) (below-nil (omega arith)) (below-nil (omega arith))) unwritten
+after-format = more (replicate 64 clean) 0 formatPage (omega arith)
+    (narrow-page 2 3 1 [] (omega arith) (omega arith) (omega arith) (omega arith) (below-nil (omega arith))
+    (below-nil (omega arith))) unwritten
 
 after-first : Medium (written 2)
 unfolding keysOf wordsOf
 after-first =
     more (written 1) 1 firstPage (omega arith)
     (narrow-page 1 3 2 (cell 5 1000 ∷ cell 7 20 ∷ []) (omega arith) (omega arith) (omega arith) (omega arith)
-    (below-cons (omega arith) (below-cons (omega arith) (below-nil (omega arith)))) (below-cons (omega arith) (below-cons (omega arith) (below-nil (omega arith))))) after-format
+    (below-cons (omega arith) (below-cons (omega arith) (below-nil (omega arith))))
+    (below-cons (omega arith) (below-cons (omega arith) (below-nil (omega arith))))) after-format
 
 after-second : Medium (written 3)
 unfolding keysOf wordsOf
 after-second =
     more (written 2) 2 secondPage (omega arith)
-    (narrow-page 1 3 3 (cell 32773 0 ∷ []) (omega arith) (omega arith) (omega arith) (omega arith) (below-cons (omega arith) (below-nil (omega arith))) (below-cons (omega arith) (below-nil (omega arith)))) after-first
+    (narrow-page 1 3 3 (cell 32773 0 ∷ []) (omega arith) (omega arith) (omega arith) (omega arith)
+    (below-cons (omega arith) (below-nil (omega arith))) (below-cons (omega arith) (below-nil (omega arith)))) after-first
 
 after-commit : Medium (written 4)
 unfolding keysOf wordsOf
 after-commit =
     more (written 3) 3 commitPage (omega arith)
-    (narrow-page 2 3 4 (cell 7 25 ∷ []) (omega arith) (omega arith) (omega arith) (omega arith) (below-cons (omega arith) (below-nil (omega arith))) (below-cons (omega arith) (below-nil (omega arith)))) after-second
+    (narrow-page 2 3 4 (cell 7 25 ∷ []) (omega arith) (omega arith) (omega arith) (omega arith)
+    (below-cons (omega arith) (below-nil (omega arith))) (below-cons (omega arith) (below-nil (omega arith)))) after-second
 
 narrow-flush : Narrow flushPage
 unfolding groupsPage changesOf endsOf allEnds bitsFrom keysOf wordsOf oneIf

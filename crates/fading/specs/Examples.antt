@@ -44,8 +44,8 @@ pagesWritten =
 abbrev pub written : ℕ → List View
 written n = take n pagesWritten ++ replicate (64 - n) clean
 
--- A medium of these pages, on which byte i of page p then fades to x, some of its bits turned to 1 and nothing else altered; and what recovery gives of
--- the faded medium.
+-- A medium of these pages, on which byte i of page p then fades to x, some of its bits turned to 1 and nothing else altered; and what
+-- recovery gives of the faded medium.
 pub record FadedGives (p i x : ℕ) (v : List View) (answer : Answer LogAndSettings) : Type 0 where
   pub medium : List ℕ
   pub pages : views medium ≡ v

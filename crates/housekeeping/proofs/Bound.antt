@@ -146,25 +146,38 @@ module _ {m : List ℕ} {s : Held} {h : History} (K : Known m s h) (rests : s .p
   unfolding appendOf under
   append-full o a = rw (K .upheld .size, fits-fresh K, is-idle, none-buffered, o .lists, o .allowed, o .withins, a)
 
-  append-short : Offer s ks ws → roomFor (views m) (s .head) (pagesFor (length ks) + 16) ≡ true → serialsFor (s .head) (pagesFor (length ks)) ≡ false
+  append-short : Offer s ks ws → roomFor (views m) (s .head) (pagesFor (length ks) + 16) ≡ true
+      → serialsFor (s .head) (pagesFor (length ks)) ≡ false
       → appendOf (length m) (views m) s fresh ks ws ≡ refused 14
   unfolding appendOf under
   append-short o a b = rw (K .upheld .size, fits-fresh K, is-idle, none-buffered, o .lists, o .allowed, o .withins, a, b)
 
-  commit-begins : basePages (length (s .index)) ≤ available (views m) (s .head) → serialsFor (s .head) (basePages (length (s .index))) ≡ true
+  commit-begins : basePages (length (s .index)) ≤ available (views m) (s .head)
+      → serialsFor (s .head) (basePages (length (s .index))) ≡ true
       → commitOf (length m) (views m) s fresh ≡ gives (starting s (commit 0))
   unfolding commitOf
   commit-begins a b =
       checked-pass (commitNeeds (length m) (views m) s fresh) (gives (starting s (commit 0)))
-      (unfold every tests roomFor in rw (K .upheld .size, fits-fresh K, is-idle, none-buffered, le-leb (basePages (length (s .index))) (available (views m) (s .head)) a, b))
+      (unfold every tests roomFor in rw
+      (K .upheld .size, fits-fresh K, is-idle, none-buffered, le-leb (basePages (length (s .index))) (available (views m) (s .head)) a, b))
 
-  commit-short : basePages (length (s .index)) ≤ available (views m) (s .head) → serialsFor (s .head) (basePages (length (s .index))) ≡ false
+  commit-short : basePages (length (s .index)) ≤ available (views m) (s .head)
+      → serialsFor (s .head) (basePages (length (s .index))) ≡ false
       → commitOf (length m) (views m) s fresh ≡ refused 14
   unfolding commitOf under roomFor
-  commit-short a b = rw (K .upheld .size, fits-fresh K, is-idle, none-buffered, le-leb (basePages (length (s .index))) (available (views m) (s .head)) a, b)
+  commit-short a b = rw (
+    K .upheld .size,
+    fits-fresh K,
+    is-idle,
+    none-buffered,
+    le-leb (basePages (length (s .index)))
+        (available (views m) (s .head)) a,
+    b,
+  )
 
   collect-begins : (b : ℕ) → collectible (views m) (s .head) b ≡ true → pagesFor (length (live (s .index) b)) ≤ available (views m) (s .head)
-      → serialsFor (s .head) (pagesFor (length (live (s .index) b))) ≡ true → collectOf (length m) (views m) s fresh b ≡ gives (starting s (collect b))
+      → serialsFor (s .head) (pagesFor (length (live (s .index) b))) ≡ true
+      → collectOf (length m) (views m) s fresh b ≡ gives (starting s (collect b))
   unfolding collectOf
   collect-begins b c a r =
       checked-pass (collectNeeds (length m) (views m) s fresh b) (gives (starting s (collect b)))
@@ -201,16 +214,19 @@ next-append : (m : List ℕ) (s s′ : Held) (ks ws : List ℕ) → appendOf (le
 unfolding namedIn withState nextOf answers13 andThen naming
 next-append m s s′ ks ws e = rw e
 
-next-append-14 : (m : List ℕ) (s : Held) (ks ws : List ℕ) → appendOf (length m) (views m) s fresh ks ws ≡ refused 14 → namedIn (world m (some s) fresh) ks ws ≡ refused 14
+next-append-14 : (m : List ℕ) (s : Held) (ks ws : List ℕ) → appendOf (length m) (views m) s fresh ks ws ≡ refused 14
+    → namedIn (world m (some s) fresh) ks ws ≡ refused 14
 unfolding namedIn withState nextOf answers13 andThen naming
 next-append-14 m s ks ws e = rw e
 
-next-commit-14 : (m : List ℕ) (s : Held) (ks ws : List ℕ) → appendOf (length m) (views m) s fresh ks ws ≡ refused 13 → newer (views m) ≡ true
+next-commit-14 : (m : List ℕ) (s : Held) (ks ws : List ℕ) → appendOf (length m) (views m) s fresh ks ws ≡ refused 13
+    → newer (views m) ≡ true
     → commitOf (length m) (views m) s fresh ≡ refused 14 → namedIn (world m (some s) fresh) ks ws ≡ refused 14
 unfolding namedIn withState nextOf answers13 andThen naming roomMaker
 next-commit-14 m s ks ws e a c = rw (e, a, c)
 
-next-collect-14 : (m : List ℕ) (s : Held) (ks ws : List ℕ) (b : ℕ) → appendOf (length m) (views m) s fresh ks ws ≡ refused 13 → newer (views m) ≡ false
+next-collect-14 : (m : List ℕ) (s : Held) (ks ws : List ℕ) (b : ℕ) → appendOf (length m) (views m) s fresh ks ws ≡ refused 13
+    → newer (views m) ≡ false
     → pickBelow (views m) (s .head) (s .index) (s .head .blocks) ≡ some b
     → collectOf (length m) (views m) s fresh b ≡ refused 14 → namedIn (world m (some s) fresh) ks ws ≡ refused 14
 unfolding namedIn withState nextOf answers13 andThen naming roomMaker collection
@@ -250,7 +266,17 @@ module _ {m : List ℕ} {s : Held} {h : History} (K : Known m s h) where
 
 -- a bound holds where a lower one does
 wider : {ks ws : List ℕ} {a b c d : ℕ} {w : World} → Bounded ks ws a b w → a ≤ c → b ≤ d → Bounded ks ws c d w
-wider B p q = record { operations = B .operations; end = B .end; few-commits = omega (arith, B .few-commits); few-collections = omega (arith, B .few-collections); admits = B .admits; history = B .history; reached = B .reached; in-log = B .in-log }
+wider B p q = record {
+  operations = B .operations;
+  end = B .end;
+  few-commits = omega (arith, B .few-commits);
+  few-collections = omega
+      (arith, B .few-collections);
+  admits = B .admits;
+  history = B .history;
+  reached = B .reached;
+  in-log = B .in-log;
+}
 
 -- one commit more
 commit-first : {ks ws : List ℕ} {a b : ℕ} (w w′ : World) → namedIn w ks ws ≡ gives Next.commit → Finishes (happen w Event.commit .after) w′ → Bounded ks ws a b w′ → Bounded ks ws (suc a) b w
@@ -262,7 +288,15 @@ commit-first w w′ n F B =
       end = B .end;
       few-commits = omega (arith, B .few-commits);
       few-collections = B .few-collections;
-      admits = record { before = A .before; leads = commits w w′ (A .before) n F (A .leads); named = A .named; begun = A .begun; begins = A .begins; finishes = A .finishes };
+      admits = record {
+        before = A .before;
+        leads = commits w w′ (A .before) n F
+            (A .leads);
+        named = A .named;
+        begun = A .begun;
+        begins = A .begins;
+        finishes = A .finishes;
+      };
       history = B .history;
       reached = B .reached;
       in-log = B .in-log;
@@ -279,7 +313,15 @@ collect-first w w′ x n F B =
       end = B .end;
       few-commits = B .few-commits;
       few-collections = omega (arith, B .few-collections);
-      admits = record { before = A .before; leads = collects w w′ (A .before) x n F (A .leads); named = A .named; begun = A .begun; begins = A .begins; finishes = A .finishes };
+      admits = record {
+        before = A .before;
+        leads = collects w w′ (A .before) x n F
+            (A .leads);
+        named = A .named;
+        begun = A .begun;
+        begins = A .begins;
+        finishes = A .finishes;
+      };
       history = B .history;
       reached = B .reached;
       in-log = B .in-log;
@@ -305,14 +347,32 @@ comes-wider : {ks ws : List ℕ} {t a b c d : ℕ} {w : World} → Comes ks ws t
 comes-wider (inl B) p q = inl (wider B p q)
 comes-wider (inr S) p q = inr S
 
-commit-then : {ks ws : List ℕ} {t a b : ℕ} (w w′ : World) → namedIn w ks ws ≡ gives Next.commit → Finishes (happen w Event.commit .after) w′ → Comes ks ws t a b w′ → Comes ks ws t (suc a) b w
+commit-then : {ks ws : List ℕ} {t a b : ℕ} (w w′ : World) → namedIn w ks ws ≡ gives Next.commit
+    → Finishes (happen w Event.commit .after) w′ → Comes ks ws t a b w′ → Comes ks ws t (suc a) b w
 commit-then w w′ n F (inl B) = inl (commit-first w w′ n F B)
-commit-then w w′ n F (inr S) = inr (record { operations = Next.commit ∷ S .operations; end = S .end; leads = commits w w′ (S .end) n F (S .leads); named = S .named; short = S .short })
+commit-then w w′ n F (inr S) = inr
+    (record {
+      operations = Next.commit ∷ S .operations;
+      end = S .end;
+      leads = commits w w′ (S .end) n F
+          (S .leads);
+      named = S .named;
+      short = S .short;
+    })
 
-collect-then : {ks ws : List ℕ} {t a b : ℕ} (w w′ : World) (x : ℕ) → namedIn w ks ws ≡ gives (Next.collect x) → Finishes (happen w (Event.collect x) .after) w′ → Comes ks ws t a b w′
+collect-then : {ks ws : List ℕ} {t a b : ℕ} (w w′ : World) (x : ℕ) → namedIn w ks ws ≡ gives (Next.collect x)
+    → Finishes (happen w (Event.collect x) .after) w′ → Comes ks ws t a b w′
     → Comes ks ws t a (suc b) w
 collect-then w w′ x n F (inl B) = inl (collect-first w w′ x n F B)
-collect-then w w′ x n F (inr S) = inr (record { operations = Next.collect x ∷ S .operations; end = S .end; leads = collects w w′ (S .end) x n F (S .leads); named = S .named; short = S .short })
+collect-then w w′ x n F (inr S) = inr
+    (record {
+      operations = Next.collect x ∷ S .operations;
+      end = S .end;
+      leads = collects w w′ (S .end) x n F
+          (S .leads);
+      named = S .named;
+      short = S .short;
+    })
 
 -- ---- the group is let in
 
@@ -342,7 +402,8 @@ module _ (ks ws : List ℕ) (narrow : Below (2 ^ 16) ks) (small : Below (2 ^ 64)
       → s .head .serial + pagesFor (length ks) ≤ t → Comes ks ws t 0 0 (world m (some s) fresh)
   admit-now {m} {s} {h} K e o room serials =
       by-cases (serialsFor (s .head) (pagesFor (length ks))) (λ q. inl (goes q))
-      (λ q. stops (world m (some s) fresh) (next-append-14 m s ks ws (append-short K e ks ws o has-room q)) (omega (arith, serials-false (s .head) (pagesFor (length ks)) q)))
+      (λ q. stops (world m (some s) fresh) (next-append-14 m s ks ws (append-short K e ks ws o has-room q))
+      (omega (arith, serials-false (s .head) (pagesFor (length ks)) q)))
     where
       has-room : roomFor (views m) (s .head) (pagesFor (length ks) + 16) ≡ true
       has-room = unfold roomFor in le-leb (pagesFor (length ks) + 16) (available (views m) (s .head)) room
@@ -351,9 +412,11 @@ module _ (ks ws : List ℕ) (narrow : Below (2 ^ 16) ks) (small : Below (2 ^ 64)
       goes q =
           let a = append-begins K e ks ws o has-room q in
           let K₁ =
-          knows-begun K (starting s (append (zip ks ws) [])) (Event.append ks ws narrow small) (beganAppend (zip ks ws)) (append-begun K ks ws narrow small (starting s (append (zip ks ws) [])) a) in
+          knows-begun K (starting s (append (zip ks ws) [])) (Event.append ks ws narrow small) (beganAppend (zip ks ws))
+          (append-begun K ks ws narrow small (starting s (append (zip ks ws) [])) a) in
           let D =
-          append-runs (pagesFor (length ks) - 1) K₁ (zip ks ws) [] refl (zip-pages ks ws (o .lists)) (omega (arith, some-page ks ws (o .lists)))
+          append-runs (pagesFor (length ks) - 1) K₁ (zip ks ws) [] refl (zip-pages ks ws (o .lists))
+          (omega (arith, some-page ks ws (o .lists)))
           (omega (arith, some-page ks ws (o .lists), serials-true (s .head) (pagesFor (length ks)) q)) in
           record {
             operations = [];
@@ -380,11 +443,13 @@ module _ (ks ws : List ℕ) (narrow : Below (2 ^ 16) ks) (small : Below (2 ^ 64)
   -- one collection suffices
   collect-once : {m : List ℕ} {s : Held} {h : History} (K : Known m s h) → s .pending ≡ idle → Offer s ks ws → appendOf (length m) (views m) s fresh ks ws ≡ refused 13 → newer (views m) ≡ false
       → (b j : ℕ) → pickBelow (views m) (s .head) (s .index) (s .head .blocks) ≡ some b → collectible (views m) (s .head) b ≡ true
-      → pagesFor (length (live (s .index) b)) ≤ j → j ≤ available (views m) (s .head) → pagesFor (length ks) + j ≤ available (views m) (s .head) → s .head .serial + (j + pagesFor (length ks)) ≤ t
+      → pagesFor (length (live (s .index) b)) ≤ j → j ≤ available (views m) (s .head)
+      → pagesFor (length ks) + j ≤ available (views m) (s .head) → s .head .serial + (j + pagesFor (length ks)) ≤ t
       → Comes ks ws t 0 1 (world m (some s) fresh)
   collect-once {m} {s} {h} K e o full13 settled b j picks fit few room gains serials =
       by-cases (serialsFor (s .head) (pagesFor (length (live (s .index) b)))) (λ q. goes q)
-      (λ q. stops (world m (some s) fresh) (next-collect-14 m s ks ws b full13 settled picks (collect-short K e ks ws b fit (omega arith) q))
+      (λ q. stops (world m (some s) fresh)
+      (next-collect-14 m s ks ws b full13 settled picks (collect-short K e ks ws b fit (omega arith) q))
       (omega (arith, serials-false (s .head) (pagesFor (length (live (s .index) b))) q)))
     where
       k : ℕ
@@ -405,7 +470,8 @@ module _ (ks ws : List ℕ) (narrow : Below (2 ^ 16) ks) (small : Below (2 ^ 64)
           let K₁ = knows-begun K (starting s (collect b)) (Event.collect b) beganCollect ev in
           let D = collect-runs k K₁ b refl (unfold tell in refl) (omega arith) (serials-true (s .head) k q) in
           let B = admit-now (D .knows) (D .rests) (offers D) (omega (arith, D .supply)) (omega (arith, D .serials)) in
-          collect-then (world m (some s) fresh) (world (D .m′) (some (D .s′)) fresh) b (next-collect m s (starting s (collect b)) ks ws b full13 settled picks c)
+          collect-then (world m (some s) fresh) (world (D .m′) (some (D .s′)) fresh) b
+          (next-collect m s (starting s (collect b)) ks ws b full13 settled picks c)
           (subst (λ (x : Moment). Finishes (x .after) (world (D .m′) (some (D .s′)) fresh)) (sym ev) (D .run)) B
 
 -- ---- collectible blocks
@@ -523,7 +589,8 @@ module _ {m : List ℕ} {s : Held} {h : History} (K : Known m s h) (rests : s .p
       let B = N .best-of in
       let p : pagesFor (length (live (s .index) (N .block))) ≤ 8 = pages-most (length (live (s .index) (N .block))) 8 (omega (arith, live-few (N .block) (s .index), index-few K)) in
       let a : pagesBefore v s ≡ 8 = unfold pagesBefore in rw e in
-      collect-once ks ws narrow small t K rests (fulls .offer) full13 e (N .block) 8 (N .is) (B .fits) p (omega arith) (omega (arith, few)) (omega (arith, a))
+      collect-once ks ws narrow small t K rests (fulls .offer) full13 e (N .block) 8 (N .is) (B .fits) p (omega arith)
+      (omega (arith, few)) (omega (arith, a))
     where
       L : BaseLast v
       L = base-last v e
@@ -559,7 +626,8 @@ module _ {m : List ℕ} {s : Held} {h : History} (K : Known m s h) (rests : s .p
           (collectible-is v (s .head) (free .x) inside (used (free .x) inside (free .xa) (free .xb)) (free .xa) (old-is v (s .head .base) (free .x) no-base-page))
 
   -- after a commit: at once, or one collection
-  module _ (c : ℕ) (D : CommitDone m (starting s (commit 0)) c (s .head .serial) (s .head .block) (spare-one .at)) (most : c ≤ 8) (counted : c + 4 ≤ pagesBefore v s) where
+  module _ (c : ℕ) (D : CommitDone m (starting s (commit 0)) c (s .head .serial) (s .head .block) (spare-one .at)) (most : c ≤ 8)
+      (counted : c + 4 ≤ pagesBefore v s) where
     offer₁ : Offer (D .s′) ks ws
     offer₁ = record { lists = fulls .offer .lists; allowed = fulls .offer .allowed; withins = ap (λ (l : List Place). within l (zip ks ws)) (D .indices) ∙ fulls .offer .withins }
 
@@ -582,14 +650,19 @@ module _ {m : List ℕ} {s : Held} {h : History} (K : Known m s h) (rests : s .p
         let b = N₁ .best-of .least (free₁ .y) (omega (arith, free₁ .ly, four (D .knows))) (can (free₁ .y) (free₁ .ly) (free₁ .ya) (free₁ .yb)) in
         omega (arith, a, b, live-two (free₁ .x) (free₁ .y) (D .s′ .index) (free₁ .xy), index-few (D .knows))
 
-    then-collect : roomFor (views (D .m′)) (D .s′ .head) (pagesFor (length ks) + 16) ≡ false → Comes ks ws t 0 1 (world (D .m′) (some (D .s′)) fresh)
+    then-collect : roomFor (views (D .m′)) (D .s′ .head) (pagesFor (length ks) + 16) ≡ false
+        → Comes ks ws t 0 1 (world (D .m′) (some (D .s′)) fresh)
     then-collect e =
-        collect-once ks ws narrow small t (D .knows) (D .rests) offer₁ (append-full (D .knows) (D .rests) ks ws offer₁ e) (D .ends-base) (N₁ .block) 4 (N₁ .is) (N₁ .best-of .fits)
+        collect-once ks ws narrow small t (D .knows) (D .rests) offer₁ (append-full (D .knows) (D .rests) ks ws offer₁ e) (D .ends-base)
+        (N₁ .block) 4 (N₁ .is) (N₁ .best-of .fits)
         (pages-most (length (live (D .s′ .index) (N₁ .block))) 4 (omega (arith, fewest))) (omega (arith, pages₁)) (omega (arith, pages₁, few)) (omega (arith, D .serials))
 
-    then-in : roomFor (views (D .m′)) (D .s′ .head) (pagesFor (length ks) + 16) ≡ true → Comes ks ws t 0 0 (world (D .m′) (some (D .s′)) fresh)
+    then-in : roomFor (views (D .m′)) (D .s′ .head) (pagesFor (length ks) + 16) ≡ true
+        → Comes ks ws t 0 0 (world (D .m′) (some (D .s′)) fresh)
     then-in e =
-        admit-now ks ws narrow small t (D .knows) (D .rests) offer₁ (leb-true (pagesFor (length ks) + 16) (available (views (D .m′)) (D .s′ .head)) (unfold roomFor in e)) (omega (arith, D .serials))
+        admit-now ks ws narrow small t (D .knows) (D .rests) offer₁
+        (leb-true (pagesFor (length ks) + 16) (available (views (D .m′)) (D .s′ .head)) (unfold roomFor in e))
+        (omega (arith, D .serials))
 
   base : (1 ≤ basePages (length (s .index))) × (basePages (length (s .index)) ≤ 8)
   base = base-some (length (s .index)) (index-few K)
@@ -610,13 +683,15 @@ module _ {m : List ℕ} {s : Held} {h : History} (K : Known m s h) (rests : s .p
 
     D₁ : CommitDone m (starting s (commit 0)) (suc (basePages (length (s .index)) - 1)) (s .head .serial) (s .head .block) (spare-one .at)
     D₁ =
-        commit-runs (basePages (length (s .index)) - 1) (knows-begun K (starting s (commit 0)) Event.commit beganCommit ev) 0 (s .head .serial) (s .head .block) (spare-one .at) refl
+        commit-runs (basePages (length (s .index)) - 1) (knows-begun K (starting s (commit 0)) Event.commit beganCommit ev) 0
+        (s .head .serial) (s .head .block) (spare-one .at) refl
         (omega (arith, base .0)) (omega arith) (omega (arith, base .0, serials-true (s .head) (basePages (length (s .index))) q)) frame₀
 
     first : (n : ℕ) → n ≤ 1 → Comes ks ws t 0 n (world (D₁ .m′) (some (D₁ .s′)) fresh) → Comes ks ws t 1 1 (world m (some s) fresh)
     first n l B =
         comes-wider
-        (commit-then (world m (some s) fresh) (world (D₁ .m′) (some (D₁ .s′)) fresh) (next-commit m s (starting s (commit 0)) ks ws full13 e c)
+        (commit-then (world m (some s) fresh) (world (D₁ .m′) (some (D₁ .s′)) fresh)
+        (next-commit m s (starting s (commit 0)) ks ws full13 e c)
         (subst (λ (x : Moment). Finishes (x .after) (world (D₁ .m′) (some (D₁ .s′)) fresh)) (sym ev) (D₁ .run)) B)
         (omega arith) l
 
@@ -632,7 +707,8 @@ module _ {m : List ℕ} {s : Held} {h : History} (K : Known m s h) (rests : s .p
   unsettled : newer v ≡ true → Comes ks ws t 1 1 (world m (some s) fresh)
   unsettled e =
       by-cases (serialsFor (s .head) (basePages (length (s .index)))) (λ q. after-commit e q)
-      (λ q. stops (world m (some s) fresh) (next-commit-14 m s ks ws full13 e (commit-short K rests ks ws (omega (arith, base .1)) q)) (omega (arith, base-first e, serials-false (s .head) (basePages (length (s .index))) q)))
+      (λ q. stops (world m (some s) fresh) (next-commit-14 m s ks ws full13 e (commit-short K rests ks ws (omega (arith, base .1)) q))
+      (omega (arith, base-first e, serials-false (s .head) (basePages (length (s .index))) q)))
 
   comes : Comes ks ws t 1 1 (world m (some s) fresh)
   comes = by-cases (newer v) (λ e. unsettled e) (λ e. comes-wider (settled e) (omega arith) (omega arith))
@@ -645,7 +721,8 @@ serialAfter w s ks = s .head .serial + (pagesBefore (views (w .medium)) s + page
 let-in-or-14 : (w : World) (h : History) (s : Held) (ks ws : List ℕ) → Meets13 w h s ks ws → Comes ks ws (serialAfter w s ks) 1 1 w
 let-in-or-14 w h s ks ws M =
     let q : w ≡ world (w .medium) (some s) fresh = rw (M .state, M .empty) in
-    rw q (comes (known (w .medium) s h (rw q at (M .reached))) (M .rests) ks ws (M .narrow) (M .small) (rw (M .empty) at (M .met13)) (M .pages))
+    rw q (comes (known (w .medium) s h (rw q at (M .reached))) (M .rests) ks ws (M .narrow) (M .small) (rw (M .empty) at (M .met13))
+    (M .pages))
 
 pub sharper : Sharper
 unfolding Sharper Suffice
@@ -674,7 +751,14 @@ few-before v s l = by-cases (newer v) (λ e. rw e (omega (arith, base-some (leng
 
 pub sixteen : Sixteen
 unfolding Sixteen ByPages
-sixteen w h s ks ws M k = by-pages w h s ks ws M (omega (arith, few-before (views (w .medium)) s valves, few-pages ks ws (full-of (length (w .medium)) (views (w .medium)) s (w .buffer) ks ws (M .met13) .offer .lists)))
+sixteen w h s ks ws M k = by-pages w h s ks ws M
+    (omega (
+      arith,
+      few-before (views (w .medium)) s valves,
+      few-pages ks ws
+          (full-of (length (w .medium)) (views (w .medium)) s (w .buffer) ks ws (M .met13) .offer .lists),
+    ))
   where
     valves : length (s .index) ≤ 192
-    valves = index-few (known (w .medium) s h (let q : w ≡ world (w .medium) (some s) fresh = rw (M .state, M .empty) in rw q at (M .reached)))
+    valves = index-few (known (w .medium) s h
+        (let q : w ≡ world (w .medium) (some s) fresh = rw (M .state, M .empty) in rw q at (M .reached)))

@@ -33,7 +33,8 @@ numberOf (gives (Next.collect b)) = 3
 clash : {P : Type 0} {x : Answer Next} (a b : Answer Next) → x ≡ a → x ≡ b → (numberOf a ≡ numberOf b → ⊥) → P
 clash a b p q d = absurd (d (ap numberOf (sym p ∙ q)))
 
-same-block : (w : World) (ks ws : List ℕ) (y u : ℕ) → namedIn w ks ws ≡ gives (Next.collect y) → namedIn w ks ws ≡ gives (Next.collect u) → y ≡ u
+same-block : (w : World) (ks ws : List ℕ) (y u : ℕ) → namedIn w ks ws ≡ gives (Next.collect y) → namedIn w ks ws ≡ gives (Next.collect u)
+    → y ≡ u
 same-block w ks ws y u p q = let z : gives (Next.collect y) ≡ gives (Next.collect u) = sym p ∙ q in cc
 
 both : (y u : ℕ) (a b : List Next) → y ≡ u → a ≡ b → _≡_ {A = List Next} (Next.collect y ∷ a) (Next.collect u ∷ b)
@@ -55,9 +56,11 @@ one-lead ks ws a b w d f (commits {ops = a₁} w₁ x e n F A) (commits {ops = a
     let k = one-end (happen w Event.commit .after) x y F G in
     let r = one-lead ks ws a₁ a₂ y d f (rw k at A) B p q in
     (ap (λ (l : List Next). Next.commit ∷ l) (r .0), r .1)
-one-lead ks ws a b w d f (commits w₁ x e n F A) (collects w₂ y e₂ z m G B) p q = clash (gives Next.commit) (gives (Next.collect z)) n m (λ z. omega arith)
+one-lead ks ws a b w d f (commits w₁ x e n F A) (collects w₂ y e₂ z m G B) p q = clash (gives Next.commit) (gives (Next.collect z)) n m
+    (λ z. omega arith)
 one-lead ks ws a b w d f (collects w₁ x e y n F A) (here w₂) p q = stays (gives (Next.collect y)) n q (omega arith)
-one-lead ks ws a b w d f (collects w₁ x e y n F A) (commits w₂ z e₂ m G B) p q = clash (gives (Next.collect y)) (gives Next.commit) n m (λ z. omega arith)
+one-lead ks ws a b w d f (collects w₁ x e y n F A) (commits w₂ z e₂ m G B) p q = clash (gives (Next.collect y)) (gives Next.commit) n m
+    (λ z. omega arith)
 one-lead ks ws a b w d f (collects {ops = a₁} w₁ x e y n F A) (collects {ops = a₂} w₂ z e₂ u m G B) p q =
     let k = same-block w ks ws y u n m in
     let e = one-end (happen w (Event.collect y) .after) x z F (rw k G) in
@@ -71,7 +74,8 @@ append-named w ks ws e = omega (arith, ap numberOf e)
 pub only : OneWay
 unfolding OneWay
 only ks ws a b w d f A B =
-    let r = one-lead ks ws a b w (A .before) (B .before) (A .leads) (B .leads) (append-named (A .before) ks ws (A .named)) (append-named (B .before) ks ws (B .named)) in
+    let r = one-lead ks ws a b w (A .before) (B .before) (A .leads) (B .leads) (append-named (A .before) ks ws (A .named))
+    (append-named (B .before) ks ws (B .named)) in
     (r .0, one-end (world (A .before .medium) (some (A .begun)) (A .before .buffer)) d f (A .finishes) (same (r .1)))
   where
     same : A .before ≡ B .before → Finishes (world (A .before .medium) (some (A .begun)) (A .before .buffer)) f

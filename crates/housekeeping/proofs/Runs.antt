@@ -386,7 +386,8 @@ module _ {m : List ℕ} {s : Held} {h : History} (K : Known m s h) (k : ℕ) (e 
       lefts = unfold Left in (subst (Left (views m) (s .head) (s .index)) e (K .ready .left))
 
       fewer : k < basePages (length (s .index))
-      fewer = unfold pendingWell doneFit in ltb-true k (basePages (length (s .index))) (every-at 1 _ (ap (pendingWell (views m) (s .head) (s .index)) (sym e) ∙ K .ready .pend))
+      fewer = unfold pendingWell doneFit in ltb-true k (basePages (length (s .index)))
+          (every-at 1 _ (ap (pendingWell (views m) (s .head) (s .index)) (sym e) ∙ K .ready .pend))
 
   whichs : Which (views m) (s .head) p
   whichs = due-page (views m) (s .head) (K .ready .heads) one-left .which
@@ -485,7 +486,8 @@ pub record AppendDone (m : List ℕ) (s : Held) (es : List Entry) : Type 0 where
   pub in-log : EndsWith es (history .log)
 
 -- an append with so many pages left is under way
-under-append : {v : List View} {serial : ℕ} {ch : List Placed} {gs : List Group} {idx : List Place} (p : Pending) (u : UnderWay) (es : List Entry) (ps : List ℕ) (n : ℕ)
+under-append : {v : List View} {serial : ℕ} {ch : List Placed} {gs : List Group} {idx : List Place} (p : Pending) (u : UnderWay)
+    (es : List Entry) (ps : List ℕ) (n : ℕ)
     → Pend v serial ch gs idx p u → p ≡ append es ps → pagesFor (length es) ≡ length ps + n → u ≡ appending es n
 under-append p u es ps n at-rest e l = let z : _≡_ {A = ℕ} 0 1 = cc in absurd (omega arith)
 under-append p u es ps n (in-commit f qs pre a b c d g o i) e l = let z : _≡_ {A = ℕ} 0 1 = cc in absurd (omega arith)
@@ -545,7 +547,14 @@ module _ {m : List ℕ} {s : Held} {h : History} (K : Known m s h) (es : List En
       let W =
       writes K (append es ps) e (unfold isIdle in refl) place group-page head-after (s .index) (append es (ps ++ (place ∷ []))) false (λ records. append-due records ∙ (unfold appended in rw l)) in
       let D = ih (W .m′) (W .records) (counted h (h .underWay)) (W .goes-on .knows) (left (W .m′) (W .sees)) in
-      record { end = D .end; run = W .goes-on .further refl (D .end) (D .run); history = D .history; reached = D .reached; in-log = D .in-log }
+      record {
+        end = D .end;
+        run = W .goes-on .further refl (D .end)
+            (D .run);
+        history = D .history;
+        reached = D .reached;
+        in-log = D .in-log;
+      }
     where
       left : (m′ : List ℕ) → views m′ ≡ set (views m) place (whole group-page) → j ≤ available (views m′) head-after
       left m′ vs =
@@ -554,7 +563,8 @@ module _ {m : List ℕ} {s : Held} {h : History} (K : Known m s h) (es : List En
 
 pub append-runs : (j : ℕ) {m : List ℕ} {s : Held} {h : History} (K : Known m s h) (es : List Entry) (ps : List ℕ) → s .pending ≡ append es ps → pagesFor (length es) ≡ length ps + suc j
     → suc j ≤ available (views m) (s .head) → s .head .serial + suc j ≤ 2 ^ 64 - 1 → AppendDone m s es
-append-runs zero {m} {s} {h} K es ps e left many room = append-ends K es ps e (omega arith) (omega arith) (last-part (length es) (length ps) left) left
+append-runs zero {m} {s} {h} K es ps e left many room = append-ends K es ps e (omega arith) (omega arith)
+    (last-part (length es) (length ps) left) left
 append-runs (suc j) {m} {s} {h} K es ps e left many room =
     append-goes K es ps e (omega arith) (omega arith) (suc j) (more-part (length es) (length ps) j left) many
     (λ m′ records h′ K′ many′. append-runs j K′ es (ps ++ (place K es ps e (omega arith) (omega arith) ∷ [])) refl (longer (place K es ps e (omega arith) (omega arith))) many′

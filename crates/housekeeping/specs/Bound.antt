@@ -38,8 +38,8 @@ namedIn w ks ws = withState (w .state) (refused 7) (λ s. nextOf (length (w .med
 unfoldable pub appendIn : World → List ℕ → List ℕ → Answer Held
 appendIn w ks ws = withState (w .state) (refused 7) (λ s. appendOf (length (w .medium)) (views (w .medium)) s (w .buffer) ks ws)
 
--- The dispatcher is asked; the commit or collection it names is begun and finished; and so on. The list has these operations in order; they lead
--- from the first world to the second.
+-- The dispatcher is asked; the commit or collection it names is begun and finished; and so on. The list has these operations in order;
+-- they lead from the first world to the second.
 pub data Leads (ks ws : List ℕ) : List Next → World → World → Type 0 where
   here : (w : World) → Leads ks ws [] w w
   commits : {ops : List Next} (w w′ end : World) → namedIn w ks ws ≡ gives Next.commit → Finishes (happen w Event.commit .after) w′
@@ -79,8 +79,8 @@ pub record EndsWith (group : List Entry) (log : List (List Entry)) : Type 0 wher
   pub before : List (List Entry)
   pub is : log ≡ before ++ (group ∷ [])
 
--- At most so many commits and so many collections let the group in: the log of the plain history then ends with that very group. By point 3 every
--- history that leads to that world has this log.
+-- At most so many commits and so many collections let the group in: the log of the plain history then ends with that very group. By point
+-- 3 every history that leads to that world has this log.
 pub record Bounded (ks ws : List ℕ) (most-commits most-collections : ℕ) (w : World) : Type 0 where
   pub operations : List Next
   pub end : World
@@ -96,8 +96,8 @@ unfoldable pub Suffice : List ℕ → List ℕ → World → Type 0
 Suffice ks ws w = (ops : List Next) (w′ : World) → Leads ks ws ops w w′ → namedIn w′ ks ws ≡ refused 14 → ⊥
 
 -- "On a medium reached, and with the state last handed back, as the valve log's statement describes, if an append met 13 with at least 16
--- pages available, the log is read, no operation is pending". Of the buffer Paper 10 says: "its bound needs it empty". As in the valve log's
--- statement, keys have 16 bits and words 64.
+-- pages available, the log is read, no operation is pending". Of the buffer Paper 10 says: "its bound needs it empty". As in the valve
+-- log's statement, keys have 16 bits and words 64.
 pub record Meets13 (w : World) (h : History) (s : Held) (ks ws : List ℕ) : Type 0 where
   pub reached : Reached w h
   pub state : w .state ≡ some s
@@ -108,7 +108,8 @@ pub record Meets13 (w : World) (h : History) (s : Held) (ks ws : List ℕ) : Typ
   pub narrow : Below (2 ^ 16) ks
   pub small : Below (2 ^ 64) ws
 
--- "and serials suffice, then without cuts at most one commit and at most two collections let that same group in", for every block count at once
+-- "and serials suffice, then without cuts at most one commit and at most two collections let that same group in", for every block count
+-- at once
 unfoldable pub Bound : Type 0
 Bound = (w : World) (h : History) (s : Held) (ks ws : List ℕ) → Meets13 w h s ks ws → Suffice ks ws w → Bounded ks ws 1 2 w
 
@@ -120,7 +121,8 @@ Sharper = (w : World) (h : History) (s : Held) (ks ws : List ℕ) → Meets13 w 
 unfoldable pub Needed : Type 0
 Needed = (ks ws : List ℕ) (ops : List Next) (w end : World) → Admits ks ws ops w end → Suffice ks ws w
 
--- the pages that the way takes at most before the group's own: where a commit is named, those of the base and 4 of moved nodes, else 8 of moved nodes
+-- the pages that the way takes at most before the group's own: where a commit is named, those of the base and 4 of moved nodes, else 8 of
+-- moved nodes
 unfoldable pub pagesBefore : List View → Held → ℕ
 pagesBefore v s = cond (newer v) (basePages (length (s .index)) + 4) 8
 

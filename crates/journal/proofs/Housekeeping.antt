@@ -104,15 +104,19 @@ on {x} {y} e P v q = record { is = q; history = tell (P .history) (toldBy x y e 
 
 module _ (ks ws : List ℕ) (narrow : Below (2 ^ 16) ks) (small : Below (2 ^ 64) ws) where
   -- an operation pending is carried to its end
-  carried : (i j : ℕ) (then : Stage) (w w′ : World) → Finishes w w′ → (m : List ℕ) (s : State) (b : List ℕ) → Stands (machine m (some s) b) w
-      → ((m : List ℕ) (s : State) (b : List ℕ) → Stands (machine m (some s) b) w′ → LetsIn ks ws i j then (machine m (some s) b)) → LetsIn ks ws i j (stepping then) (machine m (some s) b)
+  carried : (i j : ℕ) (then : Stage) (w w′ : World) → Finishes w w′ → (m : List ℕ) (s : State) (b : List ℕ)
+      → Stands (machine m (some s) b) w
+      → ((m : List ℕ) (s : State) (b : List ℕ) → Stands (machine m (some s) b) w′ → LetsIn ks ws i j then (machine m (some s) b))
+      → LetsIn ks ws i j (stepping then) (machine m (some s) b)
   carried i j then w w′ (Finishes.last w₁ e) m s b P k =
       LetsIn.last m s b (λ r m′ b′ q. says-last r (step-finishes m s b r m′ b′ q ∙ ap (λ (z : World). finishes (stepDue z)) (P .is) ∙ e))
-      (λ r m′ b′ q. k m′ (r .state) b′ (on Event.step P (Moves.step m m′ s b b′ r q) (step-after m s b r m′ b′ q ∙ ap (λ (z : World). happen z Event.step .after) (P .is))))
+      (λ r m′ b′ q. k m′ (r .state) b′
+      (on Event.step P (Moves.step m m′ s b b′ r q) (step-after m s b r m′ b′ q ∙ ap (λ (z : World). happen z Event.step .after) (P .is))))
   carried i j then w w′ (Finishes.more w₁ w₂ u F) m s b P k =
       LetsIn.step m s b (λ r m′ b′ q. step-more m s b r m′ b′ q (ap (λ (z : World). isUnfinished (stepDue z)) (P .is) ∙ u))
       (λ r m′ b′ q. carried i j then (happen w Event.step .after) w′ F m′ (r .state) b′
-      (on Event.step P (Moves.step m m′ s b b′ r q) (step-after m s b r m′ b′ q ∙ ap (λ (z : World). happen z Event.step .after) (P .is))) k)
+      (on Event.step P (Moves.step m m′ s b b′ r q)
+      (step-after m s b r m′ b′ q ∙ ap (λ (z : World). happen z Event.step .after) (P .is))) k)
 
   module _ (m : List ℕ) (s : State) (b : List ℕ) (w : World) (p : worldOf (machine m (some s) b) ≡ w) (op : Next) (n : namedIn w ks ws ≡ gives op) where
     named-so : nextOf (length m) (views m) (meaning s) b ks ws true ≡ gives op
@@ -143,38 +147,48 @@ module _ (ks ws : List ℕ) (narrow : Below (2 ^ 16) ks) (small : Below (2 ^ 64)
       sym (a .same-log) ∙ ap (λ (r : Recovery). r .log) (same-given (sym (a .accepts) ∙ b .accepts)) ∙ b .same-log
 
   -- the append named where the way ends
-  append-way : (w end : World) (s′ : Held) → namedIn w ks ws ≡ gives Next.append → appendIn w ks ws ≡ gives s′ → Finishes (world (w .medium) (some s′) (w .buffer)) end
-      → (g : History) → Reached end g → EndsWith (zip ks ws) (g .log) → (m : List ℕ) (s : State) (b : List ℕ) → Stands (machine m (some s) b) w → LetsIn ks ws 0 0 asking (machine m (some s) b)
+  append-way : (w end : World) (s′ : Held) → namedIn w ks ws ≡ gives Next.append → appendIn w ks ws ≡ gives s′
+      → Finishes (world (w .medium) (some s′) (w .buffer)) end
+      → (g : History) → Reached end g → EndsWith (zip ks ws) (g .log) → (m : List ℕ) (s : State) (b : List ℕ)
+      → Stands (machine m (some s) b) w → LetsIn ks ws 0 0 asking (machine m (some s) b)
   unfolding written callOf
   append-way w end s′ n o F g R E m s b P =
-      LetsIn.append m s b (answered-so m s b w (P .is) Next.append n) (λ r q. begun-number s (appendOf (length m) (views m) (meaning s) b ks ws) r q (begins-so m s b w (P .is) Next.append n))
+      LetsIn.append m s b (answered-so m s b w (P .is) Next.append n)
+      (λ r q. begun-number s (appendOf (length m) (views m) (meaning s) b ks ws) r q (begins-so m s b w (P .is) Next.append n))
       (λ r q. carried 0 0 inLog (world (w .medium) (some s′) (w .buffer)) end F m (r .state) b
       (on (Event.append ks ws narrow small) P (Moves.append m s b ks ws narrow small r q) (append-after m s b w (P .is) s′ o r q))
       (λ m′ t b′ Q. LetsIn.appended (machine m′ (some t) b′) (Q .history) (Q .run)
       (subst (EndsWith (zip ks ws)) (same-log end (machine m′ (some t) b′) (Q .is) g (Q .history) R (Q .run)) E)))
 
-  ways : (ops : List Next) (w end : World) → Leads ks ws ops w end → ((m : List ℕ) (s : State) (b : List ℕ) → Stands (machine m (some s) b) end → LetsIn ks ws 0 0 asking (machine m (some s) b))
-      → (m : List ℕ) (s : State) (b : List ℕ) → Stands (machine m (some s) b) w → LetsIn ks ws (commitsIn ops) (collectionsIn ops) asking (machine m (some s) b)
+  ways : (ops : List Next) (w end : World) → Leads ks ws ops w end
+      → ((m : List ℕ) (s : State) (b : List ℕ) → Stands (machine m (some s) b) end → LetsIn ks ws 0 0 asking (machine m (some s) b))
+      → (m : List ℕ) (s : State) (b : List ℕ) → Stands (machine m (some s) b) w
+      → LetsIn ks ws (commitsIn ops) (collectionsIn ops) asking (machine m (some s) b)
   unfolding written callOf commitsIn collectionsIn
   ways ops w end (here w₁) z m s b P = z m s b P
   ways ops w end (commits {ops = l} w₁ w′ end₁ n F A) z m s b P =
-      LetsIn.commit m s b (answered-so m s b w (P .is) Next.commit n) (λ r q. begun-number s (commitOf (length m) (views m) (meaning s) b) r q (begins-so m s b w (P .is) Next.commit n))
+      LetsIn.commit m s b (answered-so m s b w (P .is) Next.commit n)
+      (λ r q. begun-number s (commitOf (length m) (views m) (meaning s) b) r q (begins-so m s b w (P .is) Next.commit n))
       (λ r q. carried (commitsIn l) (collectionsIn l) asking (happen w Event.commit .after) w′ F m (r .state) b
       (on Event.commit P (Moves.commit m s b r q)
-      (moves (machine m (some s) b) (machine m (some (r .state)) b) Event.commit (Moves.commit m s b r q) ∙ ap (λ (z : World). happen z Event.commit .after) (P .is))) (ways l w′ end A z))
+      (moves (machine m (some s) b) (machine m (some (r .state)) b) Event.commit (Moves.commit m s b r q)
+      ∙ ap (λ (z : World). happen z Event.commit .after) (P .is))) (ways l w′ end A z))
   ways ops w end (collects {ops = l} w₁ w′ end₁ x n F A) z m s b P =
       LetsIn.collect m s b x (answered-so m s b w (P .is) (Next.collect x) n)
       (λ r q. begun-number s (collectOf (length m) (views m) (meaning s) b x) r q (begins-so m s b w (P .is) (Next.collect x) n))
       (λ r q. carried (commitsIn l) (collectionsIn l) asking (happen w (Event.collect x) .after) w′ F m (r .state) b
       (on (Event.collect x) P (Moves.collect m s b x r q)
-      (moves (machine m (some s) b) (machine m (some (r .state)) b) (Event.collect x) (Moves.collect m s b x r q) ∙ ap (λ (z : World). happen z (Event.collect x) .after) (P .is))) (ways l w′ end A z))
+      (moves (machine m (some s) b) (machine m (some (r .state)) b) (Event.collect x) (Moves.collect m s b x r q)
+      ∙ ap (λ (z : World). happen z (Event.collect x) .after) (P .is))) (ways l w′ end A z))
 
-  way-in : (ops : List Next) (end : World) (g h : History) (x : Machine) (s : State) → x .state ≡ some s → Run x h → Admits ks ws ops (worldOf x) end → Reached end g
+  way-in : (ops : List Next) (end : World) (g h : History) (x : Machine) (s : State) → x .state ≡ some s → Run x h
+      → Admits ks ws ops (worldOf x) end → Reached end g
       → EndsWith (zip ks ws) (g .log) → LetsIn ks ws (commitsIn ops) (collectionsIn ops) asking x
   way-in ops end g h x s e T A R E =
       let q : x ≡ machine (x .medium) (some s) (x .buffer) = ap (λ (o : Option State). machine (x .medium) o (x .buffer)) e in
       subst (LetsIn ks ws (commitsIn ops) (collectionsIn ops) asking) (sym q)
-      (ways ops (worldOf x) (A .before) (A .leads) (append-way (A .before) end (A .begun) (A .named) (A .begins) (A .finishes) g R E) (x .medium) s (x .buffer)
+      (ways ops (worldOf x) (A .before) (A .leads) (append-way (A .before) end (A .begun) (A .named) (A .begins) (A .finishes) g R E)
+      (x .medium) s (x .buffer)
       (record { is = ap worldOf (sym q); history = h; run = subst (λ (y : Machine). Run y h) q T }))
 
 -- ---- the bound
@@ -194,14 +208,16 @@ module _ (x : Machine) (h : History) (s : State) (ks ws : List ℕ) (M : Answers
         small = M .small;
       }
 
-lets-in-by : {ks ws : List ℕ} {a b : ℕ} (x : Machine) (h : History) (s : State) → Answers13 x h s ks ws → Bounded ks ws a b (worldOf x) → LetsInBy ks ws a b x
+lets-in-by : {ks ws : List ℕ} {a b : ℕ} (x : Machine) (h : History) (s : State) → Answers13 x h s ks ws → Bounded ks ws a b (worldOf x)
+    → LetsInBy ks ws a b x
 lets-in-by {ks} {ws} x h s M B =
     record {
       commits = commitsIn (B .operations);
       collections = collectionsIn (B .operations);
       few-commits = B .few-commits;
       few-collections = B .few-collections;
-      way = way-in ks ws (M .narrow) (M .small) (B .operations) (B .end) (B .history) h x s (M .state) (M .run) (B .admits) (B .reached) (B .in-log);
+      way = way-in ks ws (M .narrow) (M .small) (B .operations) (B .end) (B .history) h x s (M .state) (M .run) (B .admits) (B .reached)
+          (B .in-log);
     }
 
 pub bound-of-code : BoundOfCode

@@ -80,14 +80,16 @@ pub record LetsInBy (ks ws : List ℕ) (most-commits most-collections : ℕ) (x 
   pub few-collections : collections ≤ most-collections
   pub way : LetsIn ks ws commits collections asking x
 
--- "at most one commit and at most two collections let that same group in", of the code. "serials suffice" is `housekeeping` Bound: `Suffice`, of the world
--- that the machine stands for: on the way `next` does not answer 14.
+-- "at most one commit and at most two collections let that same group in", of the code. "serials suffice" is `housekeeping` Bound:
+-- `Suffice`, of the world that the machine stands for: on the way `next` does not answer 14.
 unfoldable pub BoundOfCode : Type 0
-BoundOfCode = (x : Machine) (h : History) (s : State) (ks ws : List ℕ) → Answers13 x h s ks ws → Suffice ks ws (worldOf x) → LetsInBy ks ws 1 2 x
+BoundOfCode = (x : Machine) (h : History) (s : State) (ks ws : List ℕ) → Answers13 x h s ks ws → Suffice ks ws (worldOf x)
+    → LetsInBy ks ws 1 2 x
 
 -- one collection is enough
 unfoldable pub SharperOfCode : Type 0
-SharperOfCode = (x : Machine) (h : History) (s : State) (ks ws : List ℕ) → Answers13 x h s ks ws → Suffice ks ws (worldOf x) → LetsInBy ks ws 1 1 x
+SharperOfCode = (x : Machine) (h : History) (s : State) (ks ws : List ℕ) → Answers13 x h s ks ws → Suffice ks ws (worldOf x)
+    → LetsInBy ks ws 1 1 x
 
 -- a serial for each page that the way takes suffices
 unfoldable pub ByPagesOfCode : Type 0
@@ -97,7 +99,8 @@ ByPagesOfCode =
 
 -- so 16 serials suffice
 unfoldable pub SixteenOfCode : Type 0
-SixteenOfCode = (x : Machine) (h : History) (s : State) (ks ws : List ℕ) → Answers13 x h s ks ws → s .head .serial + 16 ≤ 2 ^ 64 - 1 → Suffice ks ws (worldOf x)
+SixteenOfCode = (x : Machine) (h : History) (s : State) (ks ws : List ℕ) → Answers13 x h s ks ws → s .head .serial + 16 ≤ 2 ^ 64 - 1
+    → Suffice ks ws (worldOf x)
 
 -- the premises are met along some run of the code, on a medium of n bytes
 pub record ArisesInRun (n : ℕ) : Type 0 where

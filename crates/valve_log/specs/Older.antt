@@ -51,4 +51,5 @@ olderRecover most later answer n v = under (need 1 (olderSize most n) ∷ need 2
 unfoldable pub OlderAnswers : Type 0
 OlderAnswers =
     (most : ℕ) (later : List Need) (answer : Answer Recovery) (m : List ℕ) (p : ℕ) (pg : Page)
-    → olderSize most (length m) ≡ true → seen (views m) p ≡ whole pg → pg .kind ≡ 4 → olderRecover most later answer (length m) (views m) ≡ refused 2
+    → olderSize most (length m) ≡ true → seen (views m) p ≡ whole pg → pg .kind ≡ 4
+    → olderRecover most later answer (length m) (views m) ≡ refused 2
