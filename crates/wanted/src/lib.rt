@@ -64,12 +64,12 @@ pub struct Begun {
 }
 
 // A refusal before any record is compared.
-fn stop(number: u8) -> Begun
-    ensures { λ r. ⌜ Begins (stopped number) r ⌝ }
+fn stop(refusal: u8) -> Begun
+    ensures { λ r. ⌜ Begins (stopped refusal) r ⌝ }
 {
     let no_settings = index::empty();
     Begun {
-        number: number,
+        number: refusal,
         count: 0,
         present: no_settings,
     }

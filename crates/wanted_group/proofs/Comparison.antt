@@ -8,14 +8,14 @@ use native.Mathlib.Omega.{arith}
 use native.Mathlib.Decide.{decLt}
 use lib.ListN.{length, getD, set, replicate}
 use lib.Dec.{ltb, leb, eqb}
-use borrow.Author.Tests.{lt-ltb, le-ltb, le-leb, lt-leb, eq-eqb, ne-eqb, ltb-true, ltb-false}
+use borrow.Author.Tests.{lt-ltb, le-ltb, le-leb, lt-leb, eq-eqb, ne-eqb, ltb-true, ltb-false, eqb-true}
 use Rattle.lists.specs.declared.Cell.{Cell}
 use Rattle.lists.specs.declared.Cells.{Cells}
 use Rattle.lists.specs.Cells.{cell, Setting, pairs, listed}
-use Rattle.lists.proofs.Laws.{by-cases, by-eq, length-pairs, get-pairs, pairs-none}
+use Rattle.lists.proofs.Laws.{by-cases, by-eq, true-false, and-l, and-r, length-pairs, get-pairs, pairs-none}
 use Rattle.arrays.specs.Arrays.{Ranked}
 use Rattle.index.specs.Index.{lookup, risingFrom, rising}
-use Rattle.index.specs.Lent.{Lent}
+use Rattle.index.specs.Lent.{heldAt, Lent}
 use Rattle.index.specs.Search.{Kept}
 use Rattle.index.proofs.Rising.{rising-tail}
 use Rattle.index.proofs.Lookup.{lookup-none, lookup-here, lookup-other}
@@ -24,11 +24,11 @@ use Rattle.wanted_group.specs.declared.Compared.{Compared}
 use Rattle.wanted_group.specs.declared.Limited.{Limited}
 use Rattle.wanted_group.specs.Group.{same}
 use Rattle.wanted_group.specs.Limited.{LimitedGroup, tooMany, limited, limitedBy}
-use Rattle.wanted_group.specs.Compare.{SoFar, notCompared, placeOf, naming, withSetting, comparedWith, unnamed, groupOf, soFar, Comparing, ComesTo, PlaceIn, standsAt}
+use Rattle.wanted_group.specs.Compare.{SoFar, notCompared, placeOf, naming, withSetting, comparedWith, unnamed, groupOf, soFar, Comparing, ComesTo, PlaceIn}
 
 -- ---- nothing compared yet
 
-pub none-compared : ComesTo notCompared (record { named = replicate 193 0; allowed = true; more = false; count = 0; keys = replicate 96 0; vals = replicate 96 0 })
+pub none-compared : ComesTo notCompared (record { named = replicate 193 0; next = 0; allowed = true; more = false; count = 0; keys = replicate 96 0; vals = replicate 96 0 })
 unfolding notCompared
 none-compared =
     record {
@@ -38,46 +38,58 @@ none-compared =
 
 -- ---- the place of a valve
 
-module _ (n : ℕ) (ks vs : List ℕ) (k at : ℕ) (t : Lent n ks vs) (w : Ranked k ks n at) where
-  below : (i : ℕ) → i < at → getD ks i 0 < k
-  below i h = go (decLt (i + 1) at)
+module _ (k at n : ℕ) (ks : List ℕ) (b : Bool) (f : b ≡ heldAt k at n ks) where
+  held-in : b ≡ true → at < n
+  unfolding heldAt
+  held-in e = ltb-true at n (and-l (ltb at n) (eqb (getD ks at 0) k) (sym f ∙ e))
+
+  held-key : b ≡ true → getD ks at 0 ≡ k
+  unfolding heldAt
+  held-key e = eqb-true (getD ks at 0) k (and-r (ltb at n) (eqb (getD ks at 0) k) (sym f ∙ e))
+
+  not-held : b ≡ false → at < n → getD ks at 0 ≡ k → ⊥
+  unfolding heldAt
+  not-held e h z = let y : heldAt k at n ks ≡ true = rw (lt-ltb at n h, eq-eqb (getD ks at 0) k z) in true-false y (sym f ∙ e)
+
+module _ (n : ℕ) (ks vs : List ℕ) (k at : ℕ) (t : Lent n ks vs) (b : Bool) (f : b ≡ heldAt k at n ks) where
+  -- where it is found there
+  pub place-here : b ≡ true → PlaceIn k n ks at
+  place-here e =
+      let h = held-in k at n ks b f e in
+      let z = held-key k at n ks b f e in
+      record { low = omega (arith, h); there = λ q. z; first = λ i q y. let up = lent-ascends n ks vs t .each i at q h in omega (arith, up, y, z) }
+
+  -- where it is not found where it would stand
+  pub place-none : b ≡ false → Ranked k ks n at → PlaceIn k n ks n
+  place-none e w = record { low = omega arith; there = λ q. absurd (omega (arith, q)); first = by-place }
     where
-      last : getD ks (at - 1) 0 < k
-      last = w .below (at - 1) (omega (arith, h))
-
-      go : Dec (i + 1 < at) → getD ks i 0 < k
-      go (yes q) =
-          let low = w .low in
-          let z = lent-ascends n ks vs t .each i (at - 1) (omega (arith, q)) (omega (arith, low, h)) in
-          omega (arith, z, last)
-      go (no q) =
-          let e : at - 1 ≡ i = omega (arith, q, h) in
-          rw e at last
-
-  none-before : (i : ℕ) → i < at → getD ks i 0 ≡ k → ⊥
-  none-before i h e = let z = below i h in omega (arith, z, e)
-
-  pub place-past : n ≤ at → PlaceIn k n ks n
-  place-past h = record { low = omega arith; there = λ q. absurd (omega (arith, q)); first = λ i q e. none-before i (omega (arith, q, h)) e }
-
-  pub place-none : at < n → (getD ks at 0 ≡ k → ⊥) → PlaceIn k n ks n
-  place-none h f = record { low = omega arith; there = λ q. absurd (omega (arith, q)); first = by-place }
-    where
-      by-place : (i : ℕ) → i < n → getD ks i 0 ≡ k → ⊥
-      by-place i q e =
-          by-eq i at (λ z. f (ap (λ (j : ℕ). getD ks j 0) (sym z) ∙ e))
-          (λ z. by-cases (ltb i at) (λ b. none-before i (ltb-true i at b) e)
-          (λ b.
-          let g = ltb-false i at b in
-          let up = lent-ascends n ks vs t .each at i (over at i g z) q in
-          let low = w .above at (omega arith) h in
-          omega (arith, up, low, e)))
+      below : (i : ℕ) → i < at → getD ks i 0 < k
+      below i h = go (decLt (i + 1) at)
         where
-          over : (a b : ℕ) → a ≤ b → (b ≡ a → ⊥) → a < b
-          over a b h n = by-cases (ltb a b) (λ e. ltb-true a b e) (λ e. let z = ltb-false a b e in absurd (n (omega (arith, h, z))))
+          last : getD ks (at - 1) 0 < k
+          last = w .below (at - 1) (omega (arith, h))
 
-  pub place-here : at < n → getD ks at 0 ≡ k → PlaceIn k n ks at
-  place-here h e = record { low = omega (arith, h); there = λ q. e; first = none-before }
+          go : Dec (i + 1 < at) → getD ks i 0 < k
+          go (yes q) =
+              let low = w .low in
+              let z = lent-ascends n ks vs t .each i (at - 1) (omega (arith, q)) (omega (arith, low, h)) in
+              omega (arith, z, last)
+          go (no q) =
+              let z : at - 1 ≡ i = omega (arith, q, h) in
+              rw z at last
+
+      over : (a b : ℕ) → a ≤ b → (b ≡ a → ⊥) → a < b
+      over a b h n = by-cases (ltb a b) (λ e. ltb-true a b e) (λ e. let z = ltb-false a b e in absurd (n (omega (arith, h, z))))
+
+      by-place : (i : ℕ) → i < n → getD ks i 0 ≡ k → ⊥
+      by-place i q y =
+          by-eq i at (λ z. not-held k at n ks b f e (omega (arith, z, q)) (ap (λ (j : ℕ). getD ks j 0) (sym z) ∙ y))
+          (λ z. by-cases (ltb i at) (λ d. let low = below i (ltb-true i at d) in omega (arith, low, y))
+          (λ d.
+          let h = over at i (ltb-false i at d) z in
+          let up = lent-ascends n ks vs t .each at i h q in
+          let low = w .above at (omega arith) (omega (arith, h, q)) in
+          omega (arith, up, low, y)))
 
 place-by : (k r : ℕ) (l : List Cell) → r ≤ length l → (r < length l → getD l r (cell 0 0) .key ≡ k) → ((i : ℕ) → i < r → getD l i (cell 0 0) .key ≡ k → ⊥) → r ≡ placeOf k l
 unfolding placeOf
@@ -115,8 +127,8 @@ module _ (n : ℕ) (ks vs : List ℕ) (k at : ℕ) (p : PlaceIn k n ks at) where
       place-by k at (pairs n ks vs) (omega (arith, low, z)) (λ h. let q : at < n = omega (arith, h, z) in key-at at q ∙ p .there q)
       (λ i h e. p .first i h (sym (key-at i (omega (arith, h, low))) ∙ e))
 
-  stands-is : (w : ℕ) → Lent n ks vs → standsAt n vs at w ≡ same (lookup k (pairs n ks vs)) (some w)
-  unfolding standsAt rising
+  stands-is : (w : ℕ) → Lent n ks vs → heldAt w at n vs ≡ same (lookup k (pairs n ks vs)) (some w)
+  unfolding heldAt rising
   stands-is w t =
       by-cases (ltb at n)
       (λ b.
@@ -128,15 +140,6 @@ module _ (n : ℕ) (ks vs : List ℕ) (k at : ℕ) (p : PlaceIn k n ks at) where
       on : (ltb at (length (pairs n ks vs)) && eqb (getD (pairs n ks vs) at (cell 0 0) .val) w) ≡ same (lookup k (pairs n ks vs)) (some w)
       on = ap (λ (j : ℕ). ltb j (length (pairs n ks vs)) && eqb (getD (pairs n ks vs) j (cell 0 0) .val) w) place-is
           ∙ lookup-place k w 0 (pairs n ks vs) (t .rise)
-
-module _ (n : ℕ) (vs : List ℕ) (at w : ℕ) where
-  pub stands-past : n ≤ at → false ≡ standsAt n vs at w
-  unfolding standsAt
-  stands-past h = rw (le-ltb at n h)
-
-  pub stands-there : at < n → eqb (getD vs at 0) w ≡ standsAt n vs at w
-  unfolding standsAt
-  stands-there h = rw (lt-ltb at n h)
 
 -- ---- one setting more
 
@@ -158,57 +161,71 @@ others-allowed b v f = rw (le-leb 1 v (positive v f)) (and-true b)
     positive zero f = absurd (f refl)
     positive (suc v) f = omega arith
 
-module _ (c : Compared) (valve word : ℕ) (b : Bool) (e : b ≡ (c .allowed && leb 1 valve)) where
-  pub setting-past : 96 ≤ c .count → Comparing c
-      → ComesTo (withSetting (soFar c) (cell valve word))
-      (record { named = c .named; allowed = b; more = true; count = c .count; keys = c .keys; vals = c .vals })
+module _ (t : SoFar) (y : Cell) (b : Bool) (e : b ≡ (t .allowed && leb 1 (y .key))) where
+  setting-past : 96 ≤ length (t .sets) → record { named = t .named; allowed = b; more = true; sets = t .sets } ≡ withSetting t y
   unfolding withSetting
-  setting-past h g =
-      let z = length-pairs (c .count) (c .keys) (c .vals) in
-      let f : 96 ≤ length (pairs (c .count) (c .keys) (c .vals)) = omega (arith, z, h) in
-      record { few = g .few; so = rw (le-ltb _ 96 f, e) }
+  setting-past h = rw (le-ltb (length (t .sets)) 96 h, e)
 
-  pub setting-more : c .count < 96 → length (c .keys) ≡ 96 → length (c .vals) ≡ 96
-      → ComesTo (withSetting (soFar c) (cell valve word))
-      (record {
-        named = c .named;
-        allowed = b;
-        more = c .more;
-        count = c .count + 1;
-        keys = set (c .keys) (c .count) valve;
-        vals = set (c .vals) (c .count) word;
-      })
+  setting-more : length (t .sets) < 96 → record { named = t .named; allowed = b; more = t .more; sets = t .sets ++ (y ∷ []) } ≡ withSetting t y
   unfolding withSetting
-  setting-more h l m =
-      let z = length-pairs (c .count) (c .keys) (c .vals) in
-      let f : length (pairs (c .count) (c .keys) (c .vals)) < 96 = omega (arith, z, h) in
-      let s = pairs-snoc (c .count) (c .keys) (c .vals) valve word (omega (arith, h, l)) (omega (arith, h, m)) in
-      record { few = omega (arith, h); so = rw (lt-ltb _ 96 f, e) (ap (λ (x : List Cell). record { named = c .named; allowed = c .allowed && leb 1 valve; more = c .more; sets = x }) s) }
+  setting-more h = rw (lt-ltb (length (t .sets)) 96 h, e)
 
 -- ---- one record
 
-module _ (p : Cells) (c : Compared) (valve word at : ℕ) (t : Lent (p .count) (p .keys) (p .vals)) (w : PlaceIn valve (p .count) (p .keys) at)
-    (b : Bool) (f : b ≡ standsAt (p .count) (p .vals) at word) where
-  -- its valve is named
-  abbrev q : Compared
-  q = record { named = set (c .named) at 1; allowed = c .allowed; more = c .more; count = c .count; keys = c .keys; vals = c .vals }
+module _ (p : Cells) (c : Compared) (valve word at next : ℕ) (t : Lent (p .count) (p .keys) (p .vals)) (w : PlaceIn valve (p .count) (p .keys) at)
+    (b : Bool) (f : b ≡ heldAt word at (p .count) (p .vals)) where
+  -- the settings so far
+  abbrev sets : List Cell
+  sets = pairs (c .count) (c .keys) (c .vals)
 
-  named : soFar q ≡ naming (listed p) valve (soFar c)
+  -- what was found so far, with its valve named
+  abbrev named : SoFar
+  named = record { named = set (c .named) at 1; allowed = c .allowed; more = c .more; sets = sets }
+
+  named-is : named ≡ naming (listed p) valve (soFar c)
   unfolding naming
-  named =
-      ap (λ (j : ℕ). record { named = set (c .named) j 1; allowed = c .allowed; more = c .more; sets = pairs (c .count) (c .keys) (c .vals) })
-      (place-is (p .count) (p .keys) (p .vals) valve at w)
+  named-is = ap (λ (j : ℕ). record { named = set (c .named) j 1; allowed = c .allowed; more = c .more; sets = sets }) (place-is (p .count) (p .keys) (p .vals) valve at w)
 
   told : (d : Bool) → b ≡ d → same (lookup valve (listed p)) (some word) ≡ d
   told d z = sym (stands-is (p .count) (p .keys) (p .vals) valve at w word t) ∙ sym f ∙ z
 
-  pub compare-same : b ≡ true → Comparing c → ComesTo (comparedWith (listed p) (soFar c) (cell valve word)) q
+  pub compare-same : b ≡ true → Comparing c
+      → ComesTo (comparedWith (listed p) (soFar c) (cell valve word))
+      (record { named = set (c .named) at 1; next = next; allowed = c .allowed; more = c .more; count = c .count; keys = c .keys; vals = c .vals })
   unfolding comparedWith
-  compare-same z g = record { few = g .few; so = rw (told true z) named }
+  compare-same z g = record { few = g .few; so = rw (told true z) named-is }
 
-  pub compare-new : b ≡ false → (r : Compared) → ComesTo (withSetting (soFar q) (cell valve word)) r → ComesTo (comparedWith (listed p) (soFar c) (cell valve word)) r
-  unfolding comparedWith
-  compare-new z r g = record { few = g .few; so = rw (told false z) (g .so ∙ ap (λ (x : SoFar). withSetting x (cell valve word)) named) }
+  module _ (z : b ≡ false) (d : Bool) (e : d ≡ (c .allowed && leb 1 valve)) where
+    one-more : withSetting named (cell valve word) ≡ comparedWith (listed p) (soFar c) (cell valve word)
+    unfolding comparedWith
+    one-more = rw (told false z) (ap (λ (x : SoFar). withSetting x (cell valve word)) named-is)
+
+    pub compare-past : 96 ≤ c .count → Comparing c
+        → ComesTo (comparedWith (listed p) (soFar c) (cell valve word))
+        (record { named = set (c .named) at 1; next = next; allowed = d; more = true; count = c .count; keys = c .keys; vals = c .vals })
+    compare-past h g =
+        let l = length-pairs (c .count) (c .keys) (c .vals) in
+        record { few = g .few; so = setting-past named (cell valve word) d e (omega (arith, l, h)) ∙ one-more }
+
+    pub compare-more : c .count < 96 → length (c .keys) ≡ 96 → length (c .vals) ≡ 96
+        → ComesTo (comparedWith (listed p) (soFar c) (cell valve word))
+        (record {
+          named = set (c .named) at 1;
+          next = next;
+          allowed = d;
+          more = c .more;
+          count = c .count + 1;
+          keys = set (c .keys) (c .count) valve;
+          vals = set (c .vals) (c .count) word;
+        })
+    compare-more h l m =
+        let y = length-pairs (c .count) (c .keys) (c .vals) in
+        let x = pairs-snoc (c .count) (c .keys) (c .vals) valve word (omega (arith, h, l)) (omega (arith, h, m)) in
+        record {
+          few = omega (arith, h);
+          so = ap (λ (r : List Cell). record { named = set (c .named) at 1; allowed = d; more = c .more; sets = r }) x
+              ∙ setting-more named (cell valve word) d e (omega (arith, y, h)) ∙ one-more;
+        }
 
 -- ---- the group
 

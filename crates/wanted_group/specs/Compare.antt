@@ -57,7 +57,7 @@ unnamed (f ∷ fs) (x ∷ xs) = cond (eqb f 0) (cell (x .key + 32768) 0 ∷ unna
 
 -- the group, at most 96 entries: removals, then settings
 unfoldable pub groupOf : List Setting → SoFar → LimitedGroup
-groupOf s t = cond (t .more) (tooMany) (limited (unnamed (t .named) s ++ t .sets))
+groupOf s t = cond (t .more) tooMany (limited (unnamed (t .named) s ++ t .sets))
 
 -- ---- the code's struct
 
@@ -77,7 +77,3 @@ pub record PlaceIn (k n : ℕ) (ks : List ℕ) (r : ℕ) : Type 0 where
   pub low : r ≤ n
   pub there : r < n → getD ks r 0 ≡ k
   pub first : (i : ℕ) → i < r → getD ks i 0 ≡ k → ⊥
-
--- a word stands at a place below n
-unfoldable pub standsAt : ℕ → List ℕ → ℕ → ℕ → Bool
-standsAt n vs i word = ltb i n && eqb (getD vs i 0) word

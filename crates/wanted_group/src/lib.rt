@@ -8,16 +8,18 @@ ghost use lib.ListN.{length};
 ghost use Rattle.lists.specs.Lists.{all};
 ghost use Rattle.lists.specs.Cells.{cell, listed, pairs};
 ghost use Rattle.index.specs.Search.{Kept};
-ghost use Rattle.index.specs.Lent.{Lent};
+ghost use Rattle.index.specs.Lent.{heldAt, Lent};
 ghost use Rattle.wanted_group.specs.Group.{isValve};
 ghost use Rattle.wanted_group.specs.Limited.{tooMany, limited, limitedBy};
-ghost use Rattle.wanted_group.specs.Compare.{notCompared, withSetting, comparedWith, unnamed, groupOf, soFar, Comparing, ComesTo, PlaceIn, standsAt};
+ghost use Rattle.wanted_group.specs.Compare.{notCompared, comparedWith, unnamed, groupOf, soFar, Comparing, ComesTo, PlaceIn};
 use lists::Cells;
 
 // What wanted records, compared with the present settings one by one, have come to so far.
 pub struct Compared {
     // For each place of the present settings 0 until a record has named its valve. A valve that stands at none goes to the place past them.
     pub named: [u8; 193],
+    // Where the valve of the next record is looked for first: past the last that was found.
+    pub next: usize,
     // Whether no record so far sets valve 0 anew.
     pub allowed: bool,
     // Whether more than 96 records so far do not stand so.
@@ -34,6 +36,7 @@ pub fn not_compared() -> Compared
 {
     Compared {
         named: [0u8; 193],
+        next: 0,
         allowed: true,
         more: false,
         count: 0,
@@ -42,30 +45,41 @@ pub fn not_compared() -> Compared
     }
 }
 
-// The place of a valve among the first n keys, n where it stands at none.
-fn place_of<'a>(keys: &'a [u16], vals: &'a [u64], n: usize, valve: u16) -> usize
-    requires { ⌜ Lent n (now keys) (now vals) ⌝ }
-    ensures { λ r. ⌜ PlaceIn valve n (now (keys .entry)) r ⌝ }
+// Whether a valve stands at a place below n.
+fn is_at(keys: &[u16], n: usize, at: usize, valve: u16) -> bool
+    requires { ⌜ n ≤ length (now keys) ⌝ }
+    ensures { λ r. ⌜ r ≡ heldAt valve at n (now (keys .entry)) ⌝ }
 {
-    let at = arrays::rank16(keys, n, valve);
     if n <= at {
-        return n;
+        return false;
     }
-    if keys[at] != valve {
-        return n;
-    }
-    at
+    keys[at] == valve
 }
 
-// Whether a word stands at a place below n.
-fn stands(vals: &[u64], n: usize, at: usize, word: u64) -> bool
+// The same of a word.
+fn has_word(vals: &[u64], n: usize, at: usize, word: u64) -> bool
     requires { ⌜ n ≤ length (now vals) ⌝ }
-    ensures { λ r. ⌜ r ≡ standsAt n (now (vals .entry)) at word ⌝ }
+    ensures { λ r. ⌜ r ≡ heldAt word at n (now (vals .entry)) ⌝ }
 {
     if n <= at {
         return false;
     }
     vals[at] == word
+}
+
+// The place of a valve among the first n keys, n where it stands at none. A likely place is looked at first.
+fn place_of<'a>(keys: &'a [u16], vals: &'a [u64], n: usize, likely: usize, valve: u16) -> usize
+    requires { ⌜ Lent n (now keys) (now vals) ⌝ }
+    ensures { λ r. ⌜ PlaceIn valve n (now (keys .entry)) r ⌝ }
+{
+    if is_at(keys, n, likely, valve) {
+        return likely;
+    }
+    let at = arrays::rank16(keys, n, valve);
+    if is_at(keys, n, at, valve) {
+        return at;
+    }
+    n
 }
 
 // Whether valve 0 is still not set anew, with one setting more.
@@ -78,37 +92,29 @@ fn still_allowed(allowed: bool, valve: u16) -> bool
     allowed
 }
 
-// One setting more.
-fn with_setting(c: Compared, valve: u16, word: u64) -> Compared
-    requires { ⌜ Comparing c ⌝ }
-    ensures { λ r. ⌜ ComesTo (withSetting (soFar c) (cell valve word)) r ⌝ }
-{
-    let mut q = c;
-    q.allowed = still_allowed(c.allowed, valve);
-    let n = c.count;
-    if 96 <= n {
-        q.more = true;
-        return q;
-    }
-    q.count = n + 1;
-    q.keys[n] = valve;
-    q.vals[n] = word;
-    q
-}
-
-// One wanted record, a valve and its word, compared with the present settings.
+// One wanted record, a valve and its word, compared with the present settings: its valve is named, and where it does not stand so, it is one setting more.
 pub fn compare(present: Cells, c: Compared, valve: u16, word: u64) -> Compared
     requires { ⌜ Lent (present .count) (present .keys) (present .vals) × Comparing c ⌝ }
     ensures { λ r. ⌜ ComesTo (comparedWith (listed present) (soFar c) (cell valve word)) r ⌝ }
 {
     let n = present.count;
-    let at = place_of(&present.keys, &present.vals, n, valve);
+    let at = place_of(&present.keys, &present.vals, n, c.next, valve);
     let mut q = c;
     q.named[at] = 1;
-    if stands(&present.vals, n, at, word) {
+    q.next = at + 1;
+    if has_word(&present.vals, n, at, word) {
         return q;
     }
-    with_setting(q, valve, word)
+    q.allowed = still_allowed(c.allowed, valve);
+    let k = c.count;
+    if 96 <= k {
+        q.more = true;
+        return q;
+    }
+    q.count = k + 1;
+    q.keys[k] = valve;
+    q.vals[k] = word;
+    q
 }
 
 // The removals: of each present valve that no record has named.
