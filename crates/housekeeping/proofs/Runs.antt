@@ -47,9 +47,9 @@ use Rattle.valve_log.proofs.Supply.{clean-elsewhere, spare-is, spare-other, spa
 use Rattle.valve_log.proofs.Ready.{Left, Ready, fit-ready, sound-part, collects, due-outside, old-elsewhere}
 use Rattle.valve_log.proofs.Steady.{StateReady, reached-ready}
 use Rattle.valve_log.proofs.Once.{erased-recorded}
-use Rattle.dispatcher.specs.Dispatch.{serialSeen, greatestBelow, greatestSerial, endsBase, newer}
+use Rattle.newest_page.specs.Newer.{serialSeen, greatestBelow, greatestSerial, endsBase, newer}
 use Rattle.housekeeping.specs.Bound.{isUnfinished, Finishes}
-use Rattle.dispatcher.proofs.Laws.{greatest-most, greatest-least}
+use Rattle.newest_page.proofs.Laws.{greatest-most, greatest-least}
 use Rattle.housekeeping.proofs.Counting.{count-more}
 use Rattle.housekeeping.proofs.Places.{not-spoilt, There, serial-below, newest-there, Stands}
 use Rattle.housekeeping.proofs.Lives.{StateStands, reached-places}

@@ -13,7 +13,7 @@ use Rattle.read.specs.declared.Supplied.{Supplied}
 use Rattle.read.specs.Answers.{Supplies}
 use Rattle.begin.specs.declared.Begun.{Begun}
 use Rattle.begin.specs.Begun.{Appends, Commits, Collects}
-use Rattle.advance.specs.declared.Stepped.{Stepped}
+use Rattle.operations.specs.declared.Stepped.{Stepped}
 use Rattle.advance.specs.Outcomes.{Steps}
 use Rattle.dispatcher.specs.declared.NextOperation.{NextOperation}
 use Rattle.dispatcher.specs.Dispatch.{Names}
