@@ -2,4 +2,3 @@ pub mod Laws
 pub mod Facts
 pub mod First
 pub mod Kinded
-pub mod Refusals

@@ -25,14 +25,15 @@ use Rattle.nodes.specs.Nodes.{live, pickBelow}
 use Rattle.nodes.proofs.Alive.{in-live, keys-words}
 use Rattle.state.specs.State.{idle, append, commit, collect, Held, basePages, fitWith, bufferedIn, isIdle}
 use Rattle.calls.specs.Calls.{starting, zip, listsOk, roomFor, serialsFor, holdsNone, appendNeeds, appendOf, commitNeeds, commitOf, collectNeeds, collectOf, bufferOf}
-use Rattle.dispatcher.specs.Parts.{baseEnd}
+use Rattle.newest_page.specs.Meeting.{baseEnd}
 use Rattle.valve_log.specs.History.{History, Told, beganAppend, beganCommit, beganCollect, tell}
 use Rattle.valve_log.specs.Reached.{World, world, fresh, Moment, moment, withState, called, Event, happen, Reached}
 use Rattle.valve_log.proofs.Small.{zip-length}
 use Rattle.valve_log.proofs.Supply.{Witness, count-witness, spare-is}
 use Rattle.valve_log.proofs.Ready.{sound-part, no-room}
 use Rattle.valve_log.proofs.Events.{no-groups}
-use Rattle.dispatcher.specs.Dispatch.{greatestSerial, endsBase, newer, Next, naming, collection, roomMaker, answers13, nextOf}
+use Rattle.newest_page.specs.Newer.{greatestSerial, endsBase, newer}
+use Rattle.dispatcher.specs.Dispatch.{Next, naming, collection, roomMaker, answers13, nextOf}
 use Rattle.housekeeping.specs.Bound.{Finishes, namedIn, appendIn, Leads, here, commits, collects, commitsIn, collectionsIn, Bounded, Suffice, Meets13, Bound, Sharper, Needed, pagesBefore, ByPages, Sixteen, SmallGroups}
 use Rattle.housekeeping.proofs.Counting.{count-two, Two, two, One, one, live-two, live-few}
 use Rattle.housekeeping.proofs.Picking.{Named, names}

@@ -27,7 +27,7 @@ use Rattle.recovery.specs.Recovery
 use Rattle.calls.specs.Calls.{starting, zip, serialsFor, appendNeeds, appendOf, commitNeeds, commitOf, collectNeeds, collectOf, bufferNeeds, bufferOf, flushNeeds, flushOf}
 use Rattle.step.specs.Step.{Step, isLast, groupPage, appended, committed, collected, flushed, erasing, programming, appendStep, commitStep, moveStep, collectStep, flushStep, due, erasedFirst, stepOf, mediumAfter}
 use Rattle.step.proofs.Laws.{first-cases}
-use Rattle.dispatcher.specs.Parts.{baseEnd}
+use Rattle.newest_page.specs.Meeting.{baseEnd}
 use Rattle.valve_log.specs.History.{History, Told, beganAppend, beganCommit, beganCollect, putIn, beganFlush}
 use Rattle.valve_log.specs.Reached.{World, world, lentAnew, withState, stepDue, CutOf, Event, called, filled, stepped, sameBytes, cutShort, recovered, happen, finishes, Formatting}
 use Rattle.valve_log.specs.Reached.{stepDueBefore, Earlier, happened, Before, Reached}

@@ -24,7 +24,7 @@ use Rattle.state.specs.State.{Pending, commit, Held, held}
 use Rattle.recovery.specs.Recovery.{Placed, placed, serialOf, wholes, otherSerial, distinct, sort, lastOf, noPage, Group, base}
 use Rattle.recovery.proofs.Pages.{base-append}
 use Rattle.step.specs.Step.{headAfter}
-use Rattle.dispatcher.specs.Parts.{baseEnd}
+use Rattle.newest_page.specs.Meeting.{baseEnd}
 use Rattle.valve_log.proofs.Order.{below, all-sort, upto, sort-split, Thin, thin-from, last-append, consecutive-last}
 use Rattle.valve_log.proofs.Sound.{Sound, split, greatest}
 use Rattle.valve_log.proofs.Supply.{Which, in-head, new-head}

@@ -49,9 +49,9 @@ use Rattle.valve_log.proofs.Ready.{Left, pendingWell, Ready, fit-ready, sound-p
 use Rattle.valve_log.proofs.Allowed.{Allowed, StateAllowed, reached-allowed}
 use Rattle.valve_log.proofs.Steady.{StateReady, reached-ready}
 use Rattle.valve_log.proofs.Once.{erased-recorded}
-use Rattle.dispatcher.specs.Dispatch.{serialSeen, greatestBelow, greatestSerial, endsBase, newer}
+use Rattle.newest_page.specs.Newer.{serialSeen, greatestBelow, greatestSerial, endsBase, newer}
 use Rattle.housekeeping.specs.Bound.{isUnfinished, Finishes, EndsWith}
-use Rattle.dispatcher.proofs.Laws.{greatest-most, greatest-least}
+use Rattle.newest_page.proofs.Laws.{greatest-most, greatest-least}
 use Rattle.housekeeping.proofs.Counting.{count-more}
 use Rattle.housekeeping.proofs.Places.{not-spoilt, There, serial-below, newest-there, Stands}
 use Rattle.housekeeping.proofs.Lives.{StateStands, reached-places}

@@ -31,9 +31,9 @@ use Rattle.calls.specs.Calls.{formatOf, bufferNeeds, bufferOf}
 use Rattle.step.specs.Step.{Step, mediumAfter, bufferAfter}
 use Rattle.begin.specs.declared.Begun.{Begun}
 use Rattle.begin.specs.Begun as begun
-use Rattle.advance.specs.declared.Stepped.{Stepped}
-use Rattle.advance.specs.Outcomes as outcomes
-use Rattle.advance.specs.Outcomes.{Outcome, touchedBy, doneOf, outcome, done, performed}
+use Rattle.operations.specs.declared.Stepped.{Stepped}
+use Rattle.operations.specs.Answers as outcomes
+use Rattle.operations.specs.Answers.{Outcome, touchedBy, doneOf, outcome, done, performed}
 use Rattle.valve_log.specs.History.{History, start as noHistory, Told, unchanged, steppedPage, steppedBlock, tell}
 use Rattle.valve_log.specs.Reached as reached
 use Rattle.valve_log.specs.Reached.{World, world, withState, stepDue, Event, fresh, lentAnew, called, filled, stepped, recovered, cutShort}

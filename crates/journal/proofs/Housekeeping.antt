@@ -23,8 +23,9 @@ use Rattle.read.specs.declared.Supplied.{Supplied}
 use Rattle.read.specs.Answers.{Supplies}
 use Rattle.begin.specs.declared.Begun.{Begun}
 use Rattle.begin.specs.Begun.{Begins}
-use Rattle.advance.specs.declared.Stepped.{Stepped}
-use Rattle.advance.specs.Outcomes.{Outcome, Done, doneOf, done, performed, Steps}
+use Rattle.operations.specs.declared.Stepped.{Stepped}
+use Rattle.operations.specs.Answers.{Outcome, Done, doneOf, done, performed}
+use Rattle.advance.specs.Outcomes.{Steps}
 use Rattle.dispatcher.specs.declared.NextOperation.{NextOperation}
 use Rattle.dispatcher.specs.Dispatch.{Next, nextOf, written, Names}
 use Rattle.dispatcher.specs.Named.{callOf, isBegun, NamedBegins}

@@ -23,7 +23,7 @@ use Rattle.read.specs.declared.Supplied.{Supplied}
 use Rattle.read.specs.Answers.{Supplies}
 use Rattle.begin.specs.declared.Begun.{Begun}
 use Rattle.begin.specs.Begun.{Begins, filledBy}
-use Rattle.advance.specs.Outcomes.{performed}
+use Rattle.operations.specs.Answers.{performed}
 use Rattle.valve_log.specs.History.{History, start as noHistory, Told, beganAppend, beganCommit, beganCollect, beganFlush, tell}
 use Rattle.valve_log.specs.Reached as reached
 use Rattle.valve_log.specs.Reached.{World, world, fresh, lentAnew, Moment, still, called, withState, stepDue, stepped, recovered, CutOf, Event, happen, finishes, meanwhile, Reached}

@@ -20,8 +20,8 @@ use Rattle.state.proofs.Records.{records-length, record-is}
 use Rattle.step.specs.Step.{Step, stepOf, mediumAfter, bufferAfter}
 use Rattle.begin.specs.declared.Begun.{Begun}
 use Rattle.begin.specs.Begun as begun
-use Rattle.advance.specs.declared.Stepped.{Stepped}
-use Rattle.advance.specs.Outcomes.{page, block, pageDone, doneOf, touchedBy, outcome, done, performed}
+use Rattle.operations.specs.declared.Stepped.{Stepped}
+use Rattle.operations.specs.Answers.{page, block, pageDone, doneOf, touchedBy, outcome, done, performed}
 use Rattle.valve_log.specs.History.{start as noHistory}
 use Rattle.valve_log.specs.Reached.{World, world, fresh, withState, stepDue, Event, happen, finishes, meanwhile}
 use Rattle.valve_log.specs.Finished.{stepsOn, Finished, FormattingFinishes}

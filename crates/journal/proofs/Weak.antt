@@ -12,8 +12,9 @@ use Rattle.flash.specs.Medium.{views}
 use Rattle.state.specs.declared.State.{State}
 use Rattle.state.specs.State.{Held, meaning}
 use Rattle.step.specs.Step.{Step, stepOf}
-use Rattle.advance.specs.declared.Stepped.{Stepped}
-use Rattle.advance.specs.Outcomes.{Outcome, page, touchedBy, doneOf, done, performed, Steps}
+use Rattle.operations.specs.declared.Stepped.{Stepped}
+use Rattle.operations.specs.Answers.{Outcome, page, touchedBy, doneOf, done, performed}
+use Rattle.advance.specs.Outcomes.{Steps}
 use Rattle.valve_log.specs.History.{History}
 use Rattle.valve_log.specs.Reached.{World, Event}
 use Rattle.valve_log.specs.Weak.{Weak, weakAfter}

@@ -16,7 +16,7 @@ use Rattle.read.specs.declared.Supplied.{Supplied}
 use Rattle.read.specs.Answers.{Supplies}
 use Rattle.begin.specs.declared.Begun.{Begun}
 use Rattle.begin.specs.Begun.{Appends, Commits, Collects}
-use Rattle.advance.specs.declared.Stepped.{Stepped}
+use Rattle.operations.specs.declared.Stepped.{Stepped}
 use Rattle.advance.specs.Outcomes.{Steps}
 use Rattle.calls.specs.Calls.{zip}
 use Rattle.dispatcher.specs.declared.NextOperation.{NextOperation}

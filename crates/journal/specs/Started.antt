@@ -11,7 +11,7 @@ use Rattle.blocks.specs.Blocks.{sizeOk}
 use Rattle.state.specs.declared.State.{State}
 use Rattle.begin.specs.declared.Begun.{Begun}
 use Rattle.begin.specs.Begun.{Formats}
-use Rattle.advance.specs.declared.Stepped.{Stepped}
+use Rattle.operations.specs.declared.Stepped.{Stepped}
 use Rattle.advance.specs.Outcomes.{Steps}
 use Rattle.valve_log.specs.History.{start as noHistory}
 use Rattle.valve_log.specs.Reached.{fresh}

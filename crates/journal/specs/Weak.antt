@@ -5,7 +5,7 @@ use mathlib.Core.Option.{some}
 use mathlib.Core.List.{List}
 use Prim.Native.Nat.{ℕ, _/_}
 use Rattle.state.specs.declared.State.{State}
-use Rattle.advance.specs.declared.Stepped.{Stepped}
+use Rattle.operations.specs.declared.Stepped.{Stepped}
 use Rattle.advance.specs.Outcomes.{Steps}
 use Rattle.valve_log.specs.History.{History}
 use Rattle.valve_log.specs.Reached.{Event}

@@ -1,4 +1,3 @@
-pub mod CutsAllowed
 pub mod Long
 pub mod Laws
 pub mod Cuts

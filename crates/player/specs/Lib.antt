@@ -1,5 +1,3 @@
-pub mod Cuts
 pub mod Lines
 pub mod Run
 pub mod Played
-pub mod CutBits

@@ -3,8 +3,8 @@ use mathlib.Core.Path.{_≡_}
 use mathlib.Core.Bool.{Bool, true, false, cond}
 use mathlib.Core.Option.{Option, none, some}
 use mathlib.Core.List.{List, [], _∷_}
-use Prim.Native.Nat.{ℕ, _+_, _*_, _≤_}
-use lib.ListN.{length, getD}
+use Prim.Native.Nat.{ℕ, _≤_}
+use lib.ListN.{length}
 use lib.Dec.{eqb}
 use Rattle.lists.specs.Needs.{Answer, refused, gives, answered, andThen}
 use Rattle.lists.specs.Cells.{Setting, listed}
@@ -21,13 +21,13 @@ use Rattle.step.specs.Step.{Step}
 use Rattle.valve_log.specs.Reached.{World, world, fresh}
 use Rattle.trace.specs.Trace.{Recorded, dataStart, recordedAt}
 use Rattle.trace.specs.Read.{HasCall}
-use Rattle.player.specs.Cuts.{raisedAt, leftByCut}
+use Rattle.cut_patterns.specs.Cuts.{leftByCut}
+use Rattle.cut_patterns.specs.Struck.{mostBytes, Struck, struck}
 use Rattle.player.specs.Lines.{Line, settingLines}
 use Rattle.player.specs.Run.{nameOf, played}
 use Rattle.player.specs.declared.LastState.{LastState}
 use Rattle.player.specs.declared.Reply.{Reply}
 use Rattle.player.specs.declared.Recalled.{Recalled}
-use Rattle.player.specs.declared.PrintedLine.{PrintedLine}
 
 -- ---- the code's structs
 
@@ -49,14 +49,6 @@ linesBy m r =
     cond (eqb (r .number) 0)
     (cond (r .recovered) (Line.logLength (r .log) ∷ Line.valvesSet (length (settingsBy m r)) ∷ settingLines (settingsBy m r)) [])
     (Line.refusal (r .number) ∷ [])
-
--- a line as the code hands it over: 0 a refusal, 1 the log's length, 2 the number of valves set, any other a valve with its word
-unfoldable pub lineOf : PrintedLine → Line
-lineOf l =
-    cond (eqb (l .kind) 0) (Line.refusal (l .first))
-    (cond (eqb (l .kind) 1) (Line.logLength (l .first))
-    (cond (eqb (l .kind) 2) (Line.valvesSet (l .first))
-    (Line.setting (l .first) (l .second))))
 
 -- ---- promises
 
@@ -84,10 +76,6 @@ callOf code n ks ws pattern =
     (cond (eqb code 8) (Recorded.buffer ks ws)
     Recorded.flush)))))))
 
--- the most bytes of a medium that a trace is played on: "blocks, 4 to 16"
-abbrev pub mostBytes : ℕ
-mostBytes = 16 * 4096
-
 -- what `start` promises of a medium m, which it leaves as m′, and of the buffer b′ that it leaves: "The medium starts all FFh", and there is no state
 pub record Starts (m : List ℕ) (l : LastState) (m′ b′ : List ℕ) : Type 0 where
   pub medium : m′ ≡ blank (length m)
@@ -104,18 +92,6 @@ pub record Playable (t : List ℕ) (i at : ℕ) (m b : List ℕ) : Type 0 where
 -- what `play` promises of call i of a trace t, on medium m and buffer b, which it leaves as m′ and b′
 abbrev pub PlaysAt : List ℕ → ℕ → List ℕ → LastState → List ℕ → Reply → List ℕ → List ℕ → Type 0
 PlaysAt t i m l b r m′ b′ = Plays (worldBy m l b) (recordedAt t i) r m′ b′
-
--- what `line_count` promises: so many lines, whatever medium was left
-pub record CountsLines (n : ℕ) (r : Reply) : Type 0 where
-  pub is : (m : List ℕ) → n ≡ length (linesBy m r)
-
--- what `line` promises of line k
-pub record GivesLine (m : List ℕ) (r : Reply) (k : ℕ) (l : PrintedLine) : Type 0 where
-  pub is : lineOf l ≡ getD (linesBy m r) k (Line.refusal 0)
-
--- the line of setting i
-pub record GivesSetting (settings : List Setting) (i : ℕ) (l : PrintedLine) : Type 0 where
-  pub is : lineOf l ≡ getD (settingLines settings) i (Line.refusal 0)
 
 -- ---- parts
 
@@ -151,27 +127,10 @@ pub record Recalls (m : List ℕ) (r : Recalled) : Type 0 where
   pub is : answered (r .number) (restart (r .log) (meaning (r .state))) ≡ andThen (recoverOf (length m) (views m)) (λ x. gives (restartOf x))
   pub few : r .number ≡ 0 → r .state .index .count ≤ 192
 
--- whether a cut is played, and the medium it leaves
-pub record Struck : Type 0 where
-  pub so : Bool
-  pub medium : List ℕ
-
-abbrev pub struck : Bool → List ℕ → Struck
-struck r m = record { so = r; medium = m }
-
 -- a cut in the step due, if there is one and the cut names what it touches
 unfoldable pub struckBy : List ℕ → ℕ → List ℕ → Answer Step → Struck
 struckBy m name pattern (refused n) = struck false m
 struckBy m name pattern (gives due) = cond (eqb name (nameOf due)) (struck true (leftByCut m due pattern)) (struck false m)
-
--- the same by what a step did to a copy of the medium: the number it was refused with or 0, what it touched, and where
-unfoldable pub struckAfter : List ℕ → List ℕ → ℕ → ℕ → ℕ → ℕ → List ℕ → Struck
-struckAfter m copy number touched at name pattern =
-    cond (eqb number 0)
-    (cond (eqb touched 2)
-    (cond (eqb name (256 + at)) (struck true (raisedAt m (4096 * at) pattern)) (struck false m))
-    (cond (eqb name at) (struck true (raisedAt copy (256 * at) pattern)) (struck false m)))
-    (struck false m)
 
 -- the call that begins an operation, but formatting, and what it answers with a state that holds s: append, commit, collect, and for any other code a flush
 unfoldable pub operationOf : ℕ → ℕ → List ℕ → List ℕ → Recorded

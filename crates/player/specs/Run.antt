@@ -15,7 +15,7 @@ use Rattle.step.specs.Step.{Step, program, erase}
 use Rattle.valve_log.specs.History.{unchanged, beganAppend, beganCommit, beganCollect, putIn, beganFlush}
 use Rattle.valve_log.specs.Reached.{World, world, fresh, withState, stepDue, Moment, moment, still, called, filled, stepped, cutShort, recovered}
 use Rattle.trace.specs.Trace.{Recorded, numberAt, wellFormed, recorded}
-use Rattle.player.specs.Cuts.{leftByCut}
+use Rattle.cut_patterns.specs.Cuts.{leftByCut}
 use Rattle.player.specs.Lines.{Line, refusalLines, recoveryLines}
 
 -- ---- what a call answers in a world

@@ -1,12 +1,9 @@
-// A recorded call played: what it does to medium, state and buffer, and the lines that are printed of it.
+// A recorded call played: what it does to medium, state and buffer, and its reply.
 ghost use mathlib.Core.Path.{_≡_};
 ghost use Prim.Native.Nat.{_*_, _≤_, _<_};
 ghost use lib.ListN.{length};
-ghost use Rattle.lists.specs.Lists.{valueOr};
-ghost use Rattle.lists.specs.Cells.{listed};
 ghost use Rattle.flash.specs.Medium.{views};
-ghost use Rattle.nodes.specs.Nodes.{wordAt, words};
-ghost use Rattle.codec.specs.Codec.{putAt, blank};
+ghost use Rattle.codec.specs.Codec.{blank};
 ghost use Rattle.page.specs.Buffer.{bufferBytes};
 ghost use Rattle.state.specs.State.{meaning};
 ghost use Rattle.step.specs.Step.{stepOf};
@@ -14,15 +11,12 @@ ghost use Rattle.advance.specs.Outcomes.{Performs};
 ghost use Rattle.begin.specs.Begun.{Begins};
 ghost use mathlib.Core.Bool.{true};
 ghost use Rattle.trace.specs.Trace.{Recorded, codeAt, hasGroup};
-ghost use Rattle.player.specs.Cuts.{raised, raisedAt};
-ghost use Rattle.player.specs.Played.{mostBytes, struck, struckBy, struckAfter};
-ghost use Rattle.player.specs.Played.{worldBy, FewSet, CountsLines, GivesLine, GivesSetting, Plays, callOf, Starts, PlaysAt, Playable};
+ghost use Rattle.cut_patterns.specs.Struck.{mostBytes, struck};
+ghost use Rattle.player.specs.Played.{struckBy};
+ghost use Rattle.player.specs.Played.{worldBy, Plays, callOf, Starts, PlaysAt, Playable};
 ghost use Rattle.player.specs.Played.{answeredBy, refusedBy, lostBy, restartedBy, Recalls, operationOf, operationAnswer};
-use advance::Stepped;
 use begin::Begun;
-use lists::Cell;
-use lists::Cells;
-use lists::Found;
+use operations::Stepped;
 use state::State;
 
 // The state last handed back; it is lost after a cut, until a recovery gives one. What `state` then holds means nothing.
@@ -40,25 +34,6 @@ pub struct Reply {
     pub ends: bool,
     pub last: LastState,
 }
-
-// A line to print: by its kind a refusal's number, the log's length, the number of valves set, or a valve and its word.
-pub struct PrintedLine {
-    pub kind: u8,
-    pub first: u64,
-    pub second: u64,
-}
-
-// Kinds of lines; any other kind is a valve and its word. Here a refusal.
-pub const REFUSAL: u8 = 0;
-
-// The log's length.
-pub const LOG_LENGTH: u8 = 1;
-
-// The number of valves set.
-pub const VALVES_SET: u8 = 2;
-
-// A valve and its word.
-pub const SETTING: u8 = 3;
 
 // A reply: the number that a call was refused with or 0, and the state.
 fn answered(number: u8, s: State) -> Reply
@@ -252,99 +227,6 @@ fn cut_short(s: State) -> Reply
     }
 }
 
-// The bytes of a list put at the front of another.
-fn overwrite(to: &mut [u8], from: &[u8])
-    requires { ⌜ length (now from) ≤ length (now to) ⌝ }
-    ensures { λ _. ⌜ now (to .exit) ≡ putAt (now (to .entry)) 0 (now (from .entry)) ⌝ }
-{
-    let mut i: usize = 0;
-    while i < from.len() {
-        to[i] = from[i];
-        i += 1;
-    }
-}
-
-// A byte with each bit at 1 that is 1 in another.
-fn with_bits(x: u8, y: u8) -> u8
-    ensures { λ r. ⌜ r ≡ raised 8 x y ⌝ }
-{
-    x | y
-}
-
-// Each 1 bit of a pattern set in the bytes from `at` on, as far as there are bytes.
-fn raise(m: &mut [u8], at: usize, pattern: &[u8])
-    ensures { λ _. ⌜ now (m .exit) ≡ raisedAt (now (m .entry)) at (now (pattern .entry)) ⌝ }
-{
-    if m.len() <= at {
-        return;
-    }
-    let room = m.len() - at;
-    let mut i: usize = 0;
-    while i < room {
-        if pattern.len() <= i {
-            return;
-        }
-        m[at + i] = with_bits(m[at + i], pattern[i]);
-        i += 1;
-    }
-}
-
-// The same in page p.
-fn raise_page(m: &mut [u8], p: usize, pattern: &[u8])
-    requires { ⌜ length (now m) ≤ mostBytes ⌝ }
-    ensures { λ _. ⌜ now (m .exit) ≡ raisedAt (now (m .entry)) (256 * p) (now (pattern .entry)) ⌝ }
-{
-    if m.len() <= p {
-        return;
-    }
-    raise(m, 256 * p, pattern);
-}
-
-// And in block b.
-fn raise_block(m: &mut [u8], b: usize, pattern: &[u8])
-    requires { ⌜ length (now m) ≤ mostBytes ⌝ }
-    ensures { λ _. ⌜ now (m .exit) ≡ raisedAt (now (m .entry)) (4096 * b) (now (pattern .entry)) ⌝ }
-{
-    if m.len() <= b {
-        return;
-    }
-    raise(m, 4096 * b, pattern);
-}
-
-// What a cut leaves of a step that did this to a copy of the medium: whether it names what the step touched, and then the medium.
-fn leave(
-    m: &mut [u8],
-    copy: &[u8],
-    number: u8,
-    touched: u8,
-    at: usize,
-    name: u64,
-    pattern: &[u8],
-) -> bool
-    requires { ⌜ (length (now copy) ≡ length (now m)) × (length (now m) ≤ mostBytes) ⌝ }
-    ensures { λ r. ⌜ struck r (now (m .exit)) ≡ struckAfter (now (m .entry)) (now (copy .entry)) number touched at name (now (pattern .entry)) ⌝ }
-{
-    if number != 0 {
-        return false;
-    }
-    if touched == advance::BLOCK {
-        if name < 256 {
-            return false;
-        }
-        if name - 256 != at as u64 {
-            return false;
-        }
-        raise_block(m, at, pattern);
-        return true;
-    }
-    if name != at as u64 {
-        return false;
-    }
-    overwrite(m, copy);
-    raise_page(m, at, pattern);
-    true
-}
-
 // The most bytes of a medium that a trace is played on: 16 blocks.
 pub const BYTES: usize = 65536;
 
@@ -361,7 +243,7 @@ fn rehearse(copy: &mut [u8], b: &[u8], s: State) -> Stepped
     ensures { λ r. ⌜ Performs (now (copy .entry)) s (now (b .entry)) r (now (copy .exit)) ⌝ }
 {
     let mut lent = [0u8; 256];
-    overwrite(&mut lent, b);
+    cut_patterns::overwrite(&mut lent, b);
     journal_c::vj_step(copy, s, &mut lent)
 }
 
@@ -371,9 +253,9 @@ fn strike_with(copy: &mut [u8], m: &mut [u8], b: &[u8], s: State, name: u64, pat
     requires { ⌜ (length (now copy) ≡ length (now m)) × (length (now m) ≤ mostBytes) × (length (now b) ≡ bufferBytes) ⌝ }
     ensures { λ r. ⌜ struck r (now (m .exit)) ≡ struckBy (now (m .entry)) name (now (pattern .entry)) (stepOf (length (now (m .entry))) (views (now (m .entry))) (meaning s) (now (b .entry))) ⌝ }
 {
-    overwrite(copy, m);
+    cut_patterns::overwrite(copy, m);
     let r = rehearse(copy, b, s);
-    leave(m, copy, r.number, r.touched, r.at, name, pattern)
+    cut_patterns::leave(m, copy, r.number, r.touched, r.at, name, pattern)
 }
 
 // The same with room of its own.
@@ -489,83 +371,4 @@ pub fn play(t: &[u8], i: usize, at: usize, m: &mut [u8], b: &mut [u8], last: Las
         return call(m, b, last, code, n, &[], &[], pattern);
     }
     call(m, b, last, code, n, &[], &[], &[])
-}
-
-// How many lines are printed of a reply.
-pub fn line_count(r: Reply) -> usize
-    requires { ⌜ FewSet r ⌝ }
-    ensures { λ n. ⌜ CountsLines n r ⌝ }
-{
-    if r.number != 0 {
-        return 1;
-    }
-    if !r.recovered {
-        return 0;
-    }
-    let last = r.last;
-    let s = last.state;
-    let c = s.index;
-    2 + c.count
-}
-
-// The word of a valve at the address of a place of the index, 0 where there is none.
-fn word(m: &[u8], place: Cell) -> u64
-    ensures { λ r. ⌜ r ≡ valueOr 0 (wordAt (views (now (m .entry))) place) ⌝ }
-{
-    let found = nodes::word_at(m, place);
-    let Found::At(word) = found else {
-        return 0;
-    };
-    word
-}
-
-// The line of the valve at place i of an index.
-fn setting(m: &[u8], c: Cells, i: usize) -> PrintedLine
-    requires { ⌜ (i < c .count) × (c .count ≤ 192) ⌝ }
-    ensures { λ r. ⌜ GivesSetting (words (views (now (m .entry))) (listed c)) i r ⌝ }
-{
-    let place = Cell {
-        key: c.keys[i],
-        val: c.vals[i],
-    };
-    let word = word(m, place);
-    PrintedLine {
-        kind: SETTING,
-        first: place.key as u64,
-        second: word,
-    }
-}
-
-// A line with one number.
-fn counted(kind: u8, n: u64) -> PrintedLine
-    ensures { λ r. ⌜ r ≡ record { kind = kind; first = n; second = 0 } ⌝ }
-{
-    PrintedLine {
-        kind: kind,
-        first: n,
-        second: 0,
-    }
-}
-
-// Line k of a reply, where m is the medium that was left; past the last one a line that means nothing.
-pub fn line(m: &[u8], r: Reply, k: usize) -> PrintedLine
-    requires { ⌜ FewSet r ⌝ }
-    ensures { λ l. ⌜ GivesLine (now (m .entry)) r k l ⌝ }
-{
-    if line_count(r) <= k {
-        return counted(REFUSAL, 0);
-    }
-    if r.number != 0 {
-        return counted(REFUSAL, r.number as u64);
-    }
-    if k == 0 {
-        return counted(LOG_LENGTH, r.log as u64);
-    }
-    let last = r.last;
-    let s = last.state;
-    let c = s.index;
-    if k == 1 {
-        return counted(VALVES_SET, c.count as u64);
-    }
-    setting(m, c, k - 2)
 }

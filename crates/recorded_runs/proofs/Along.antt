@@ -22,9 +22,9 @@ use Rattle.valve_log.specs.Reached.{World, world, withState, stepDue, CutOf, Ev
 use Rattle.valve_log.proofs.Events.{Upheld, there, block-there, due-good}
 use Rattle.valve_log.proofs.Due.{Good}
 use Rattle.trace.specs.Trace.{Recorded, patternSize}
-use Rattle.player.specs.Cuts.{leftByCut}
+use Rattle.cut_patterns.specs.Cuts.{leftByCut}
 use Rattle.player.specs.Run.{withHeld, played, playedCut, playedRecovery, recoverIn, nameOf}
-use Rattle.player.proofs.CutsAllowed.{program-cut, erase-cut}
+use Rattle.cut_patterns.proofs.CutsAllowed.{program-cut, erase-cut}
 
 -- ---- the length of the medium
 

@@ -23,7 +23,7 @@ use Rattle.valve_log.specs.Reached.{World, Moment, sameBytes, cutShort, Reached
 use Rattle.valve_log.proofs.Point3.{reached-upheld}
 use Rattle.trace.specs.Trace.{callCount, codeAt, numberAt, hasGroup, withoutNumber, numberOk, patternSize, dataSize, dataBelow, dataStart, formatsOnce, recoversNext, callOk, hasLists, wellFormed}
 use Rattle.trace.specs.Trace.{Recorded, numbersAt, recordedAs, recordedAt, recorded}
-use Rattle.player.specs.Cuts.{raised, raisedBytes, raisedAt, leftByCut}
+use Rattle.cut_patterns.specs.Cuts.{raised, raisedBytes, raisedAt, leftByCut}
 use Rattle.player.specs.Run.{nameOf, played, playedCut, linesFrom}
 use Rattle.recorded_runs.specs.Example.{completeCutTrace, CompleteCutExample}
 use Rattle.recorded_runs.proofs.Along.{InForm}

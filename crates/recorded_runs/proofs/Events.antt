@@ -16,7 +16,7 @@ use Rattle.valve_log.specs.Reached.{World, world, withState, stepDue, CutOf, ha
 use Rattle.valve_log.proofs.Events.{Upheld, due-good}
 use Rattle.valve_log.proofs.Point3.{reached-upheld}
 use Rattle.trace.specs.Trace.{Recorded, patternSize}
-use Rattle.player.specs.Cuts.{leftByCut}
+use Rattle.cut_patterns.specs.Cuts.{leftByCut}
 use Rattle.player.specs.Lines.{recoveryLines}
 use Rattle.player.specs.Run.{withHeld, recoverIn, nameOf, played, playedCut, playedRecovery}
 use Rattle.recorded_runs.specs.Events.{EndsRun, CallsAsEvents, RecoversAsEvent, CutAsEvent, PlayedAsEvents}

@@ -16,10 +16,12 @@ use Rattle.valve_log.specs.Reached.{World}
 use Rattle.trace.specs.Trace.{Recorded, callCount, numberAt, recordedAt, recorded, wellFormed}
 use Rattle.player.specs.declared.LastState.{LastState}
 use Rattle.player.specs.declared.Reply.{Reply}
-use Rattle.player.specs.declared.PrintedLine.{PrintedLine}
+use Rattle.reply_lines.specs.declared.PrintedLine.{PrintedLine}
 use Rattle.player.specs.Lines.{Line}
 use Rattle.player.specs.Run.{startWorld, linesFrom, linesOf}
-use Rattle.player.specs.Played.{heldBy, worldBy, linesBy, lineOf, FewSet, Plays, Starts, mostBytes, PlaysAt}
+use Rattle.cut_patterns.specs.Struck.{mostBytes}
+use Rattle.player.specs.Played.{heldBy, worldBy, linesBy, FewSet, Plays, Starts, PlaysAt}
+use Rattle.reply_lines.specs.Printed.{lineOf}
 use Rattle.recorded_runs.specs.Recorded.{PrintsHistory}
 use Rattle.recorded_runs.specs.OfCode.{noLine, HandedLines, linesPrinted, CallPlayed, PlaysOn, Reruns, PrintsOfCode}
 use Rattle.recorded_runs.proofs.Whole.{prints-history}

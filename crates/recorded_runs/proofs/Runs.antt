@@ -16,10 +16,11 @@ use Rattle.valve_log.specs.Reached.{fresh}
 use Rattle.trace.specs.Trace.{callCount, numberAt, wellFormed}
 use Rattle.player.specs.declared.LastState.{LastState}
 use Rattle.player.specs.declared.Reply.{Reply}
-use Rattle.player.specs.declared.PrintedLine.{PrintedLine}
+use Rattle.reply_lines.specs.declared.PrintedLine.{PrintedLine}
 use Rattle.player.specs.Lines.{Line}
-use Rattle.player.specs.Played.{linesBy, lineOf, Starts, CountsLines}
-use Rattle.player.proofs.Laws.{count-refused, count-none, count-summary}
+use Rattle.player.specs.Played.{linesBy, Starts}
+use Rattle.reply_lines.specs.Printed.{lineOf, CountsLines}
+use Rattle.reply_lines.proofs.Laws.{count-refused, count-none, count-summary}
 use Rattle.recorded_runs.specs.OfCode.{noLine, HandedLines, linesPrinted, PlaysOn, Reruns, ComesTo, PlayAnswers, Rerun, RunsOfCode}
 
 -- ---- lines as they are handed over

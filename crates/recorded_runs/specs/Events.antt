@@ -17,7 +17,7 @@ use Rattle.step.specs.Step.{Step, stepOf}
 use Rattle.valve_log.specs.History.{History}
 use Rattle.valve_log.specs.Reached.{World, world, stepDue, CutOf, Event, still, happen, Reached}
 use Rattle.trace.specs.Trace.{Recorded, patternSize}
-use Rattle.player.specs.Cuts.{leftByCut}
+use Rattle.cut_patterns.specs.Cuts.{leftByCut}
 use Rattle.player.specs.Lines.{Line, refusalLines, summary}
 use Rattle.player.specs.Run.{recoverIn, nameOf, played}
 

@@ -12,10 +12,11 @@ use Rattle.page.specs.Buffer.{bufferBytes}
 use Rattle.trace.specs.Trace.{callCount, numberAt, dataStart, wellFormed, recorded}
 use Rattle.player.specs.declared.LastState.{LastState}
 use Rattle.player.specs.declared.Reply.{Reply}
-use Rattle.player.specs.declared.PrintedLine.{PrintedLine}
+use Rattle.reply_lines.specs.declared.PrintedLine.{PrintedLine}
 use Rattle.player.specs.Lines.{Line}
 use Rattle.player.specs.Run.{startWorld, linesOf}
-use Rattle.player.specs.Played.{lineOf, FewSet, Starts, Playable, PlaysAt, CountsLines, GivesLine}
+use Rattle.player.specs.Played.{FewSet, Starts, Playable, PlaysAt}
+use Rattle.reply_lines.specs.Printed.{lineOf, CountsLines, GivesLine}
 use Rattle.recorded_runs.specs.Recorded.{Phase, toldFrom}
 
 -- ---- the lines of a call

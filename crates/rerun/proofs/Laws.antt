@@ -14,7 +14,8 @@ use Rattle.trace.specs.Trace.{callCount, codeAt, numberAt, dataSize, wellFormed
 use Rattle.trace.specs.Read.{Listed, HasCall}
 use Rattle.trace.proofs.Laws.{Summed, sum-start, start-next}
 use Rattle.trace.proofs.Form.{formed-lists, formed-call, blocks-high}
-use Rattle.player.specs.Played.{mostBytes, Playable}
+use Rattle.cut_patterns.specs.Struck.{mostBytes}
+use Rattle.player.specs.Played.{Playable}
 
 module _ (t : List ℕ) (w : wellFormed t ≡ true) where
   pub calls-listed : Listed t

@@ -6,21 +6,22 @@ ghost use Prim.Native.Nat.{_≤_};
 ghost use lib.ListN.{length};
 ghost use Rattle.page.specs.Buffer.{bufferBytes};
 ghost use Rattle.trace.specs.Trace.{wellFormed};
-ghost use Rattle.player.specs.Played.{mostBytes, FewSet};
-use player::PrintedLine;
+ghost use Rattle.cut_patterns.specs.Struck.{mostBytes};
+ghost use Rattle.player.specs.Played.{FewSet};
 use player::Reply;
+use reply_lines::PrintedLine;
 
 // A line.
 fn print(l: PrintedLine) {
-    if l.kind == player::REFUSAL {
+    if l.kind == reply_lines::REFUSAL {
         show::line(b"refused ", l.first);
         return;
     }
-    if l.kind == player::LOG_LENGTH {
+    if l.kind == reply_lines::LOG_LENGTH {
         show::line(b"log ", l.first);
         return;
     }
-    if l.kind == player::VALVES_SET {
+    if l.kind == reply_lines::VALVES_SET {
         show::line(b"set ", l.first);
         return;
     }
@@ -32,10 +33,10 @@ fn print(l: PrintedLine) {
 fn lines(m: &[u8], r: Reply)
     requires { ⌜ FewSet r ⌝ }
 {
-    let n = player::line_count(r);
+    let n = reply_lines::line_count(r);
     let mut k: usize = 0;
     while k < n {
-        print(player::line(m, r, k));
+        print(reply_lines::line(m, r, k));
         k += 1;
     }
 }

@@ -5,7 +5,7 @@ use Rattle.player.proofs.rehearse.Tie as tie
 use Rattle.player.proofs.rehearse.Reads as reads
 use Rattle.player.proofs.rehearse.Lts as lts
 use Rattle.journal_c.proofs.vj_step.Reads as vj-step-reads
-use Rattle.player.proofs.overwrite.Reads as overwrite-reads
+use Rattle.cut_patterns.proofs.overwrite.Reads as overwrite-reads
 
 -- src/lib.rt:363:15
 slice-aggregate-overwrite : tie.Need-slice-aggregate-overwrite

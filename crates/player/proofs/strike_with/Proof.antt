@@ -4,8 +4,8 @@ use Rattle.player.proofs.strike_with.Statement.{statement}
 use Rattle.player.proofs.strike_with.Tie as tie
 use Rattle.player.proofs.strike_with.Reads as reads
 use Rattle.player.proofs.strike_with.Lts as lts
-use Rattle.player.proofs.leave.Reads as leave-reads
-use Rattle.player.proofs.overwrite.Reads as overwrite-reads
+use Rattle.cut_patterns.proofs.leave.Reads as leave-reads
+use Rattle.cut_patterns.proofs.overwrite.Reads as overwrite-reads
 use Rattle.player.proofs.rehearse.Reads as rehearse-reads
 
 -- src/lib.rt:373:5

@@ -1,7 +1,7 @@
 use mathlib.Core.Path.{_≡_}
 use Prim.Native.Nat.{_-_, _≤_}
 use Rattle.page.specs.Buffer.{bufferBytes}
-use Rattle.player.specs.Played.{mostBytes}
+use Rattle.cut_patterns.specs.Struck.{mostBytes}
 use lib.ListN.{length}
 use Rattle.trace.proofs.Laws.{Summed}
 use Rattle.rerun.proofs.Laws.{calls-listed, calls-times, calls-first, calls-start, calls-playable, calls-has, calls-fits, calls-next}

@@ -4,8 +4,8 @@ use Rattle.rerun.proofs.lines.Statement.{statement}
 use Rattle.rerun.proofs.lines.Tie as tie
 use Rattle.rerun.proofs.lines.Reads as reads
 use Rattle.rerun.proofs.lines.Lts as lts
-use Rattle.player.proofs.line.Reads as line-reads
-use Rattle.player.proofs.line_count.Reads as line-count-reads
+use Rattle.reply_lines.proofs.line.Reads as line-reads
+use Rattle.reply_lines.proofs.line_count.Reads as line-count-reads
 use Rattle.rerun.proofs.print.Reads as print-reads
 
 abbrev Inv-loop : tie.InvT-loop
