@@ -1,5 +1,5 @@
 -- What the notes of a whole list stand for: whether its valves rise, how many records it has, and whether there are more than 192.
-use mathlib.Core.Path.{_≡_, refl, sym, ap, _∙_}
+use mathlib.Core.Path.{_≡_, refl, ap, _∙_}
 use mathlib.Core.Bool.{Bool, true, false, _&&_}
 use mathlib.Core.List.{List, [], _∷_}
 use Prim.Native.Nat.{ℕ, suc, _+_, _≤_, _<_}
@@ -9,7 +9,6 @@ use lib.Dec.{leb, ltb}
 use borrow.Author.Tests.{lt-leb, leb-false}
 use Rattle.lists.specs.declared.Cell.{Cell}
 use Rattle.lists.specs.Lists.{all}
-use Rattle.lists.specs.Cells.{cell}
 use Rattle.lists.proofs.Laws.{by-cases}
 use Rattle.index.specs.Index.{risingFrom, rising}
 use Rattle.records.specs.declared.Record.{Record}

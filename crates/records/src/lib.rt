@@ -1,4 +1,4 @@
-// A lent list of records, each a valve and its word, walked once; what the walk notes are three numbers.
+// A lent list of records, each a valve and its word, walked once; the walk notes whether the valves rise, and how many records there are.
 ghost use mathlib.Core.Path.{_≡_};
 ghost use Rattle.records.specs.Records.{unnoted, stillRises, noted, notedAll};
 

@@ -8,9 +8,9 @@ use native.Mathlib.Omega.{arith}
 use lib.ListN.{length, getD, take, drop, drop-of-length-le}
 use lib.Seq.{drop-cons, getD-take, length-take-le, take-all}
 use lib.Dec.{leb}
-use borrow.Author.Tests.{leb-true, leb-false, le-leb, ne-eqb}
+use borrow.Author.Tests.{leb-true, leb-false, ne-eqb}
 use Rattle.lists.specs.Lists.{all, every}
-use Rattle.lists.specs.Needs.{Answer, refused, gives, need, under, checked}
+use Rattle.lists.specs.Needs.{Answer, refused, need, under, checked}
 use Rattle.lists.specs.Cells.{cell, Entry, Setting, listed}
 use Rattle.lists.proofs.Laws.{by-cases}
 use Rattle.page.specs.Pages.{View}
@@ -30,7 +30,7 @@ use Rattle.wanted_group.proofs.Fewest.{group-length}
 use Rattle.wanted_group.proofs.Together.{compared-allowed, compared-group}
 use Rattle.wanted.specs.declared.Begun.{Begun}
 use Rattle.wanted.specs.Wanted.{valvesOk, fewRecords, present, wantedFor, wantedOf, Reply, reply}
-use Rattle.wanted.specs.InTurn.{recordNeeds, afterRecords, beginning, Start, stopped, startBy, startOf, Begins, groupGiven, closing}
+use Rattle.wanted.specs.InTurn.{afterRecords, beginning, Start, stopped, startBy, startOf, Begins, groupGiven, closing}
 use Rattle.wanted.proofs.Serves.{present-rises, present-valves, present-few, wanted-rises, wanted-valves}
 
 -- ---- the walk over the first c records: next and end

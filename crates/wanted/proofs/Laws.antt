@@ -9,14 +9,13 @@ use lib.Dec.{leb, ltb}
 use borrow.Author.Tests.{le-leb, lt-leb, not-true, not-false, eq-eqb, ne-eqb}
 use Rattle.lists.specs.declared.Cell.{Cell}
 use Rattle.lists.specs.declared.Cells.{Cells}
-use Rattle.lists.specs.Lists.{all, every}
+use Rattle.lists.specs.Lists.{all}
 use Rattle.lists.specs.Needs.{Answer, refused, gives, under, answerOr, refusalOf}
 use Rattle.lists.specs.Cells.{Setting, pairs, listed}
-use Rattle.lists.proofs.Laws.{by-cases, true-false, all-weaken, every-at, number-refuses, number-clear, numbered, tests, checked-pass}
+use Rattle.lists.proofs.Laws.{by-cases, true-false, all-weaken, every-at, number-refuses, number-clear, numbered, checked-pass}
 use Rattle.page.specs.Pages.{View}
 use Rattle.flash.specs.Medium.{views}
 use Rattle.index.specs.Index.{risingFrom, rising}
-use Rattle.index.specs.Lent.{Lent}
 use Rattle.index.specs.Search.{Kept}
 use Rattle.nodes.specs.Nodes.{sound, words}
 use Rattle.nodes.proofs.Alive.{rising-words, all-words}

@@ -1,5 +1,5 @@
--- The call as the code has it, which walks the list of records twice: what 1, 7, 19, 20 and 6 say comes first, and then the records are compared with
--- the present settings one by one. `proofs/InTurn` shows that it comes to the answer of `Wanted`.
+-- The call as the code has it, which walks the list of records twice: what 1, 7, 19, 20 and 6 say comes first, and then the records are
+-- compared with the present settings one by one. `proofs/InTurn` shows that it comes to the answer of `Wanted`.
 use mathlib.Core.Path.{_≡_}
 use mathlib.Core.Bool.{Bool, true, cond}
 use mathlib.Core.Option.{Option, none, some}
@@ -66,6 +66,7 @@ pub record Begins (t : Start) (b : Begun) : Type 0 where
 abbrev pub groupGiven : LimitedGroup → Option (List Entry)
 groupGiven g = cond (g .found) (some (g .entries)) none
 
--- the answer, of the number of what has refused so far, or 0, the present settings, and what the comparison has found: 11, or the group, or 'none'
+-- the answer, of the number of what has refused so far, or 0, the present settings, and what the comparison has found: 11, or the group,
+-- or 'none'
 unfoldable pub closing : ℕ → List Setting → SoFar → Answer (Option (List Entry))
 closing n s t = cond (eqb n 0) (checked (need 11 (t .allowed) ∷ []) (groupGiven (groupOf s t))) (refused n)

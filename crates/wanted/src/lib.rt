@@ -1,5 +1,5 @@
-// A group for wanted openings: the call over a medium, a state and a lent list of records. Its list is walked twice: what 19 and 20 ask is noted first,
-// and after 6 each record is compared with the index.
+// A group for wanted openings: the call over a medium, a state and a lent list of records. The list is walked twice: what 19 and 20 ask
+// is noted first, and after 6 each record is compared with the index.
 ghost use mathlib.Core.Path.{_≡_};
 ghost use mathlib.Core.Bool.{true};
 ghost use Prim.Native.Nat.{_≤_};
@@ -55,8 +55,8 @@ fn record_refusal(rises: bool, count: usize) -> u8
     0
 }
 
-// What stands before the records are compared: a refusal's number, or 0, how many records are to be compared, and the present settings. Beside a refusal
-// these are none.
+// What stands before the records are compared: a refusal's number, or 0, how many records are to be compared, and the present settings.
+// Beside a refusal these are none.
 pub struct Begun {
     pub number: u8,
     pub count: usize,

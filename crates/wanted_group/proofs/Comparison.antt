@@ -1,7 +1,7 @@
 -- One wanted record compared with the present settings, and the group, in the shapes that the code's proofs ask.
 use mathlib.Core.Path.{_≡_, refl, sym, ap, _∙_}
-use mathlib.Core.Bool.{Bool, true, false, cond, _&&_}
-use mathlib.Core.Option.{Option, none, some}
+use mathlib.Core.Bool.{Bool, true, false, _&&_}
+use mathlib.Core.Option.{some}
 use mathlib.Core.List.{List, [], _∷_, _++_}
 use Prim.Native.Nat.{ℕ, zero, suc, _+_, _-_, _≤_, _<_}
 use native.Mathlib.Omega.{arith}
@@ -21,7 +21,6 @@ use Rattle.index.proofs.Rising.{rising-tail}
 use Rattle.index.proofs.Lookup.{lookup-none, lookup-here, lookup-other}
 use Rattle.index.proofs.Pairs.{pairs-snoc, lent-ascends}
 use Rattle.wanted_group.specs.declared.Compared.{Compared}
-use Rattle.wanted_group.specs.declared.Limited.{Limited}
 use Rattle.wanted_group.specs.Group.{same}
 use Rattle.wanted_group.specs.Limited.{LimitedGroup, tooMany, limited, limitedBy}
 use Rattle.wanted_group.specs.Compare.{SoFar, notCompared, placeOf, naming, withSetting, comparedWith, unnamed, groupOf, soFar, Comparing, ComesTo, PlaceIn}

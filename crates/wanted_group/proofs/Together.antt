@@ -1,24 +1,23 @@
--- The wanted records compared with the present settings one after the other come to the group: what no record has named is removed, what does not stand
--- so is set.
+-- The wanted records compared with the present settings one after the other come to the group: what no record has named is removed, what
+-- does not stand so is set.
 use mathlib.Core.Path.{_≡_, refl, sym, ap, _∙_}
 use mathlib.Core.Bool.{Bool, true, false, cond, _&&_}
-use mathlib.Core.Option.{Option, none, some}
 use mathlib.Core.List.{List, [], _∷_, _++_, append-nil}
 use Prim.Native.Nat.{ℕ, zero, suc, _+_, _≤_, _<_}
 use native.Mathlib.Omega.{arith}
-use lib.ListN.{length, getD, set, replicate, length-append, length-set}
+use lib.ListN.{length, set, replicate, length-append, length-set}
 use lib.Seq.{append-snoc}
 use lib.Dec.{leb, ltb, eqb}
 use borrow.Author.Tests.{lt-ltb, le-ltb, lt-leb, eq-eqb, ne-eqb, ltb-true, ltb-false}
 use Rattle.lists.specs.declared.Cell.{Cell}
 use Rattle.lists.specs.Lists.{isSome, all}
-use Rattle.lists.specs.Cells.{cell, Setting}
-use Rattle.lists.proofs.Laws.{by-cases, by-eq, true-false, all-head, all-tail}
+use Rattle.lists.specs.Cells.{Setting}
+use Rattle.lists.proofs.Laws.{by-cases, by-eq, all-head, all-tail}
 use Rattle.index.specs.Index.{lookup, risingFrom, rising, entryAllowed, entriesAllowed}
 use Rattle.index.proofs.Rising.{rising-head, rising-tail}
 use Rattle.index.proofs.Lookup.{lookup-here, lookup-past, lookup-none, lookup-other}
-use Rattle.wanted_group.specs.Group.{isValve, same, removalsFor, settingsFor, groupFor}
-use Rattle.wanted_group.specs.Limited.{LimitedGroup, tooMany, limited}
+use Rattle.wanted_group.specs.Group.{isValve, removalsFor, settingsFor, groupFor}
+use Rattle.wanted_group.specs.Limited.{limited}
 use Rattle.wanted_group.specs.Compare.{SoFar, notCompared, placeOf, naming, withSetting, comparedWith, comparedAll, unnamed, groupOf}
 use Rattle.wanted_group.proofs.Leads.{removal, stands, settings-same, settings-new}
 use Rattle.wanted_group.proofs.Eleven.{setting-ok, ok-none, group-settings}

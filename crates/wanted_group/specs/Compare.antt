@@ -1,5 +1,5 @@
--- Wanted records compared with the present settings, which rise by valve, one by one: which of these a record has named, and which records do not
--- stand so. As the code has it; `proofs/Together` shows that it comes to the group of `Group`.
+-- Wanted records compared with the present settings, which rise by valve, one by one: which of these a record has named, and which records
+-- do not stand so. As the code has it; `proofs/Together` shows that it comes to the group of `Group`.
 use mathlib.Core.Path.{_≡_}
 use mathlib.Core.Bool.{Bool, true, false, cond, _&&_}
 use mathlib.Core.Option.{some}
@@ -13,8 +13,8 @@ use Rattle.wanted_group.specs.declared.Compared.{Compared}
 use Rattle.wanted_group.specs.Group.{same}
 use Rattle.wanted_group.specs.Limited.{LimitedGroup, tooMany, limited}
 
--- For each place of the present settings a flag, 0 until a record has named its valve; whether no record sets valve 0 anew; whether more than 96 do
--- not stand so; and the first 96 of those.
+-- For each place of the present settings a flag, 0 until a record has named the valve there; whether no record sets valve 0 anew; whether
+-- more than 96 do not stand so; and the first 96 of those.
 pub record SoFar : Type 0 where
   pub named : List ℕ
   pub allowed : Bool

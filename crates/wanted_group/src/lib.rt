@@ -16,7 +16,7 @@ use lists::Cells;
 
 // What wanted records, compared with the present settings one by one, have come to so far.
 pub struct Compared {
-    // For each place of the present settings 0 until a record has named its valve. A valve that stands at none goes to the place past them.
+    // For each place of the present settings 0 until a record has named the valve there. The place past them is for valves that are not set.
     pub named: [u8; 193],
     // Where the valve of the next record is looked for first: past the last that was found.
     pub next: usize,
@@ -92,7 +92,8 @@ fn still_allowed(allowed: bool, valve: u16) -> bool
     allowed
 }
 
-// One wanted record, a valve and its word, compared with the present settings: its valve is named, and where it does not stand so, it is one setting more.
+// One wanted record, a valve and its word, compared with the present settings: its valve is named, and where it does not stand so, it is
+// one setting more.
 pub fn compare(present: Cells, c: Compared, valve: u16, word: u64) -> Compared
     requires { ⌜ Lent (present .count) (present .keys) (present .vals) × Comparing c ⌝ }
     ensures { λ r. ⌜ ComesTo (comparedWith (listed present) (soFar c) (cell valve word)) r ⌝ }
