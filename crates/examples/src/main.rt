@@ -273,8 +273,7 @@ fn row(whole: u16, clean: u16, spoilt: u16) {
 
 // The survey's row of block 0, and the picker's choice.
 fn first_block(m: &[u8], s: State) {
-    let mut number: u8 = 0;
-    let rows = read::survey(m, s, &mut number);
+    let rows = read::survey(m, s);
     let first = rows[0];
     row(first[0], first[1], first[2]);
     picked(m, s);
