@@ -8,13 +8,11 @@ use lib.ListN.{length, getD, set, length-set}
 use lib.Seq.{ext-getD, getD-set-same, getD-set-other}
 use borrow.Author.Tests.{le-leb, lt-leb}
 use Rattle.lists.specs.Lists.{table}
-use Rattle.lists.specs.Needs.{gives, answered, andThen}
-use Rattle.lists.proofs.Laws.{answered-then, length-table, get-table}
-use Rattle.flash.specs.Medium.{views, pageAt}
+use Rattle.lists.proofs.Laws.{length-table, get-table}
+use Rattle.flash.specs.Medium.{pageAt}
 use Rattle.state.specs.declared.State.{State}
-use Rattle.state.specs.State.{meaning}
-use Rattle.readings.specs.Readings.{surveyOf}
-use Rattle.c_answers.specs.Forms.{IsPage, mostCounts, joined}
+use Rattle.read.specs.Answers.{surveyRefusal, surveyRows}
+use Rattle.c_answers.specs.Forms.{IsPage, mostCounts, joined, SurveysInOne}
 
 -- ---- pages
 
@@ -49,6 +47,6 @@ joined-end rows xs i h t =
     ext-getD 0 xs (table mostCounts (λ k. getD (getD rows (k / 3) []) (k % 3) 0)) (t .long ∙ sym (length-table (λ k. getD (getD rows (k / 3) []) (k % 3) 0) 0 mostCounts))
     (λ k l. t .so k (omega (arith, t .long)) ∙ sym (get-table (λ j. getD (getD rows (j / 3) []) (j % 3) 0) 0 mostCounts k (omega (arith, t .long))))
 
-pub survey-tells : (m : List ℕ) (s : State) (n : ℕ) (rows : List (List ℕ)) (xs : List ℕ) → answered n rows ≡ surveyOf (length m) (views m) (meaning s) → xs ≡ joined rows
-    → answered n xs ≡ andThen (surveyOf (length m) (views m) (meaning s)) (λ rows. gives (joined rows))
-survey-tells m s n rows xs g z = ap (answered n) z ∙ answered-then n rows joined ∙ ap (λ a. andThen a (λ rows. gives (joined rows))) g
+pub survey-tells : (m : List ℕ) (s : State) (n : ℕ) (rows : List (List ℕ)) (xs : List ℕ) → n ≡ surveyRefusal m s → rows ≡ surveyRows m s → xs ≡ joined rows
+    → SurveysInOne m s (record { number = n; counts = xs })
+survey-tells m s n rows xs e g z = rw (e, z, g)

@@ -6,12 +6,10 @@ use Prim.Native.Nat.{ℕ, _+_, _*_, _/_, _%_}
 use lib.ListN.{length, getD}
 use lib.Dec.{leb}
 use Rattle.lists.specs.Lists.{table}
-use Rattle.lists.specs.Needs.{gives, answered, andThen}
 use Rattle.codec.specs.Codec.{part}
-use Rattle.flash.specs.Medium.{mostBlocks, views, pageAt}
+use Rattle.flash.specs.Medium.{mostBlocks, pageAt}
 use Rattle.state.specs.declared.State.{State}
-use Rattle.state.specs.State.{meaning}
-use Rattle.readings.specs.Readings.{surveyOf}
+use Rattle.read.specs.Answers.{surveyRefusal, surveyRows}
 use Rattle.c_answers.specs.declared.VjPart.{VjPart}
 use Rattle.c_answers.specs.declared.VjSurvey.{VjSurvey}
 
@@ -32,6 +30,6 @@ mostCounts = 3 * mostBlocks
 unfoldable pub joined : List (List ℕ) → List ℕ
 joined rows = table mostCounts (λ i. getD (getD rows (i / 3) []) (i % 3) 0)
 
--- what `survey` promises of a medium m and a state s
+-- what `survey` promises of a medium m and a state s: the number that refuses the survey, or 0, and its rows in one list, with 0 in every place on a refusal
 abbrev pub SurveysInOne : List ℕ → State → VjSurvey → Type 0
-SurveysInOne m s r = answered (r .number) (r .counts) ≡ andThen (surveyOf (length m) (views m) (meaning s)) (λ rows. gives (joined rows))
+SurveysInOne m s r = r ≡ record { number = surveyRefusal m s; counts = joined (surveyRows m s) }

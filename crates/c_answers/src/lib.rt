@@ -13,7 +13,7 @@ pub struct VjPart {
 // How many counts the survey has: a row of three for each block.
 pub const COUNTS: usize = 3 * flash::BLOCKS;
 
-// 0 and the survey, its rows of three counts one after another, or a refusal's number.
+// 0 and the survey, its rows of three counts one after another; or a refusal's number, and every count 0.
 #[repr(C)]
 pub struct VjSurvey {
     pub number: u8,
@@ -54,9 +54,8 @@ fn joined(rows: [[u16; 3]; flash::BLOCKS]) -> [u16; COUNTS]
 pub fn survey(m: &[u8], s: State) -> VjSurvey
     ensures { λ r. ⌜ SurveysInOne (now (m .entry)) s r ⌝ }
 {
-    let mut number = 0u8;
-    let rows = read::survey(m, s, &mut number);
-    let counts = joined(rows);
+    let number = read::survey_refusal(m, s);
+    let counts = joined(read::survey(m, s));
     VjSurvey {
         number: number,
         counts: counts,

@@ -273,8 +273,7 @@ fn row(whole: u16, clean: u16, spoilt: u16) {
 
 // The survey's row of block 0, and the picker's choice.
 fn first_block(m: &[u8], s: State) {
-    let mut number: u8 = 0;
-    let rows = read::survey(m, s, &mut number);
+    let rows = read::survey(m, s);
     let first = rows[0];
     row(first[0], first[1], first[2]);
     picked(m, s);
@@ -330,6 +329,43 @@ fn collected() {
     line(b"after the collection of block 0, steps ", t.steps as u64);
     show::medium(&m);
     first_block(&m, t.state);
+}
+
+// The most answers that a reader gives of a medium of 4 blocks, 24 changes for each page and 'no more'.
+const ANSWERS: usize = 1537;
+
+// What a reader has after its last change: 'no more', or the number that refused it.
+fn over(number: u8) {
+    if number != 0 {
+        show::refused(number);
+        return;
+    }
+    text(b"no more\n");
+}
+
+// The log of such a medium through a log reader, its changes one by one.
+fn read_out(m: &[u8]) {
+    let mut c = log_reader::first(m);
+    let mut n: usize = 0;
+    while n < ANSWERS {
+        if !c.found {
+            over(c.next.number);
+            return;
+        }
+        show::change(c.group, c.key, c.word);
+        c = log_reader::following(m, c.next);
+        n += 1;
+    }
+}
+
+// The sample read change by change, and a medium that was never formatted.
+fn change_by_change() {
+    let mut m = [255u8; 16384];
+    text(b"all FFh, change by change:\n");
+    read_out(&m);
+    sample(&mut m, 12);
+    text(b"{5 to 1000, 7 to 20}, {remove 5}, change by change:\n");
+    read_out(&m);
 }
 
 // Bits that fade: the first n numbers of these calls, then one byte of the medium faded to FFh.
@@ -492,6 +528,7 @@ fn main() {
     recovered();
     committed();
     collected();
+    change_by_change();
     fading();
     small_groups();
     flushes();

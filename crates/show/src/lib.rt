@@ -65,7 +65,7 @@ fn no_groups() -> [u32; PLACES]
 }
 
 // One change: the number of its group, then a valve and its word, or `-` where it was removed.
-fn change(group: u32, key: u16, word: u64) {
+pub fn change(group: u32, key: u16, word: u64) {
     number(group as u64);
     text(b" ");
     if 32768 <= key {

@@ -1,4 +1,4 @@
--- What playing a list of calls promises.
+-- What playing a list of calls promises: not what the calls do, which each call of the library says itself, but what keeps the two programs in bounds.
 use mathlib.Core.Path.{_≡_}
 use mathlib.Core.List.{List}
 use Prim.Native.Nat.{ℕ}

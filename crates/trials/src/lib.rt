@@ -1,4 +1,5 @@
-// Calls of the journal as a list of numbers, played one by one on a lent medium and write buffer, for the programs that run the papers' examples.
+// Calls of the journal as a list of numbers, played one by one on a lent medium and write buffer: support for the two programs that run the papers' examples,
+// whose output is compared with a file. It is no part of the library, and promises little: see `Played`.
 ghost use mathlib.Core.Path.{_≡_};
 ghost use Prim.Native.Nat.{_<_, _≤_};
 ghost use lib.ListN.{length};

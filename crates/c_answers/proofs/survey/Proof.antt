@@ -3,6 +3,9 @@ use borrow.Author.Needs.{needs}
 use Rattle.c_answers.proofs.survey.Statement.{statement}
 use Rattle.c_answers.proofs.survey.Tie as tie
 
+survey-refusal-requires : tie.Need-survey-refusal-requires
+survey-refusal-requires c κs = search needs
+
 survey-requires : tie.Need-survey-requires
 survey-requires c κs = search needs
 
@@ -13,4 +16,4 @@ returns : tie.Need-returns
 returns c = search survey-tells
 
 pub survey-spec : {M : Type 1} → statement M
-survey-spec = tie.close (tie.spec survey-requires joined-requires returns)
+survey-spec = tie.close (tie.spec survey-refusal-requires survey-requires joined-requires returns)
