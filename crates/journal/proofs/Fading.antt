@@ -62,7 +62,7 @@ moved x y h e r v =
     let m : y .medium ≡ happen (worldOf x) e .after .medium = ap (λ (w : World). w .medium) (moves x y e v) in
     rw m (happen-change (x .medium) (worldOf x .state) (x .buffer) h e (reached-upheld (worldOf x) h (runs x h r)))
 
-moment-of : (x : Machine) (h : History) (r : Run x h) (n : ℕ) → 2 ≤ n → n ≤ nextSerial (views (x .medium)) → AtSerial (MomentOfRun r) (mediumThen r) (x .medium) n
+pub moment-of : (x : Machine) (h : History) (r : Run x h) (n : ℕ) → 2 ≤ n → n ≤ nextSerial (views (x .medium)) → AtSerial (MomentOfRun r) (mediumThen r) (x .medium) n
 moment-of x h (Run.start z y f v last) n lo hi =
     let m : y .medium ≡ happen (worldOf z) Event.step .after .medium = ap (λ (w : World). w .medium) (moves z y Event.step v) in
     let a : nextSerial (views (y .medium)) ≤ 2 = rw m (start-next (worldOf z) (formatting z f) (sym (answers-finished z y v) ∙ last)) in
@@ -147,7 +147,7 @@ module _ (m : List ℕ) (n : ℕ) (among : (4 ≤ n) × (n ≤ 6)) (e : recover 
 -- ---- the claim
 
 module _ (x : Machine) (h : History) (r : Run x h) (m : List ℕ) (f : Faded (x .medium) m) where
-  within-run : Within (views m) (views (x .medium))
+  pub within-run : Within (views m) (views (x .medium))
   within-run = faded-within (worldOf x) h (reached-upheld (worldOf x) h (runs x h r)) m f
 
   -- at a moment at which the next serial was the faded medium's
@@ -174,7 +174,7 @@ unfolding groupsMadeBy
 run-tallied x h (Run.start z y f v last) = start-tallied
 run-tallied x h (Run.next z y k e r v) = tell-tallied (groupsMadeBy r) k (run-tallied z k r) (toldBy z y e v)
 
-made-since : {y : Machine} {g : History} (q : Run y g) (x : Machine) (h : History) (r : Run x h) → RunAtOrBefore q x h r → MadeSince (groupsMadeBy q) (groupsMadeBy r)
+pub made-since : {y : Machine} {g : History} (q : Run y g) (x : Machine) (h : History) (r : Run x h) → RunAtOrBefore q x h r → MadeSince (groupsMadeBy q) (groupsMadeBy r)
 unfolding groupsMadeBy
 made-since q x h r now = none-since (groupsMadeBy q)
 made-since q x h r (earlier {x = x′} {z = z} {h = h′} {r = r′} e v p) = more-since (groupsCounting h′ (toldBy x′ z e v)) (made-since q x′ h′ r′ p)

@@ -1,0 +1,6 @@
+pub mod Archive
+pub mod Careful
+pub mod Base
+pub mod Faded
+pub mod First
+pub mod Examples
