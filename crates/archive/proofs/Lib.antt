@@ -2,5 +2,4 @@ pub mod Base
 pub mod Once
 pub mod Careful
 pub mod Faded
-pub mod First
 pub mod Examples

@@ -2,5 +2,4 @@ pub mod Archive
 pub mod Careful
 pub mod Base
 pub mod Faded
-pub mod First
 pub mod Examples
