@@ -1,159 +1,135 @@
--- What the archive files of a faded medium is the first part of what was made: the medium shows a moment of the list, and at each moment the archive has filed
--- all that is shown, or files as if the medium had not changed since.
-use mathlib.Core.Path.{_≡_, sym, ap, _∙_}
+-- What the archive files of faded media is the first part of what was made: each of them shows a moment of the list, and what is read at a moment whose next
+-- serial is not smaller than that of the mark goes on where the archive is.
+use mathlib.Core.Path.{_≡_, refl, sym, ap, _∙_}
+use mathlib.Core.Logic.{_⊎_, inl, inr}
 use mathlib.Core.Option.{Option, none, some}
-use mathlib.Core.List.{List, [], _++_, append-nil}
+use mathlib.Core.List.{List, _++_}
 use Prim.Native.Nat.{ℕ, _≤_, _<_}
 use native.Mathlib.Omega.{arith}
-use lib.ListN.{length, length-append, drop-of-length-le}
+use native.Mathlib.Decide.{decLt}
+use lib.ListN.{length}
 use Rattle.lists.specs.Needs.{refused, gives}
 use Rattle.lists.specs.Cells.{Entry}
-use Rattle.lists.proofs.Laws.{by-cases, by-eq, some-same, none-some}
+use Rattle.lists.proofs.Laws.{some-same, none-some}
+use Rattle.page.specs.Pages.{View, changesOf}
+use Rattle.page.proofs.More.{changes-append}
 use Rattle.flash.specs.Medium.{views}
-use Rattle.nodes.specs.Nodes.{words}
 use Rattle.recovery.specs.Recovery.{Recovery, recoveryWith, recover as recoverOf}
-use Rattle.valve_log.specs.History.{History, Told, tell}
-use Rattle.valve_log.specs.Reached.{World, Event, happen, Reached}
-use Rattle.fading.specs.Fading.{AtOrBefore, now, earlier, RefusedOrAsThen, refuses, shown, Fades}
-use Rattle.fading.specs.Made.{groupsCounting, groupsMade}
-use Rattle.fading.proofs.Made.{MadeSince, none-since, more-since}
-use Rattle.fading.proofs.Fading.{fades}
-use Rattle.archive.specs.Archive.{As, Item, itemsOf, Reading, readingWith, readingOf, read, Archive, newOf, file, commitCounts, Filed, start, event, reading, filing}
-use Rattle.archive.specs.Base.{Rises}
-use Rattle.archive.specs.Faded.{BeginsWith, FadedFiling}
-use Rattle.archive.proofs.Base.{base-found, base-rises}
-use Rattle.archive.proofs.Once.{joins, tell-joins, newAt, new-equal, Kept, seen, read-is, file-seen, Waiting, filed-along, baseIn}
+use Rattle.news.specs.declared.News.{News}
+use Rattle.news.specs.News.{Mark, mark, refusedNews, newsAfter, newsOf}
+use Rattle.valve_log.specs.History.{History}
+use Rattle.valve_log.specs.Reached.{World, Reached, Shows}
+use Rattle.valve_log.specs.Made.{groupsMade}
+use Rattle.fading.specs.Fading.{Faded, AtOrBefore, AsThen, RefusedOrAsThen, refuses, shown, Fades, RefusedWith4To6}
+use Rattle.fading.proofs.Same.{base-found, serial-found}
+use Rattle.fading.proofs.Made.{made-since}
+use Rattle.fading.proofs.Fading.{fades, refused-with-4-to-6}
+use Rattle.archive.specs.Archive.{Reading, readingBy, read, Archive, file, FiledOnce}
+use Rattle.archive.specs.Faded.{FadedFilings, begun, filing, FirstPart, FadedFirstPart, FadedRefusedWith}
+use Rattle.archive.proofs.Kept.{Kept, seenAt, refused-earlier, news-now, news-accepted, read-now}
+use Rattle.archive.proofs.Moments.{baseIn, serialIn, KeptIn, KeptSince, kept-at, file-since}
+use Rattle.archive.proofs.Once.{tallied, sets-filed, along-filings, filed-once}
 
--- ---- a moment of the list, beside the archive
+-- ---- what is read of a faded medium
 
--- the base is smaller than the one filed last; or it is the same and all of the log was filed; or the archive is as it should be then
-pub data Past {k : As} (a : Archive k) (b : ℕ) (log made : List (List Entry)) : Type 0 where
-  lower : b < a .base → Past a b log made
-  fewer : b ≡ a .base → length (itemsOf k log) ≤ a .count → Past a b log made
-  kept : Kept a b log made → Past a b log made
+-- where recovery refuses, so does the call, and nothing is read
+news-refused : (k : Mark) (m : List ℕ) (n : ℕ) → recoverOf (length m) (views m) ≡ refused n → newsOf k m ≡ refusedNews n
+unfolding newsOf newsAfter
+news-refused k m n e = rw e
 
--- so at every moment
-unfoldable AllPast : {k : As} → Archive k → (w : World) (h : History) → Reached w h → Type 0
-AllPast a w h (Reached.start v F e) = Past a (baseIn w) [] []
-AllPast a w h (Reached.next v g e r) = AllPast a v g r × Past a (baseIn w) (tell g (happen v e .told) .log) (groupsMade r ++ groupsCounting g (happen v e .told))
+none-read : (k : Mark) (m : List ℕ) (n : ℕ) → recoverOf (length m) (views m) ≡ refused n → read k m ≡ none
+unfolding read readingBy
+none-read k m n e = ap (readingBy (newsOf k m) (views m)) e
 
-past-now : {k : As} (a : Archive k) (w : World) (h : History) (r : Reached w h) → AllPast a w h r → Past a (baseIn w) (h .log) (groupsMade r)
-unfolding AllPast groupsMade
-past-now a w h (Reached.start v F e) P = P
-past-now a w h (Reached.next v g e r) P = P .1
+-- and so where the call refuses
+none-by : (n : News) (v : List View) (R : Recovery) → n ≡ refusedNews 28 → readingBy n v (gives R) ≡ none
+unfolding readingBy
+none-by n v R e = rw e
 
-past-at : {k : As} (a : Archive k) {v : World} {g : History} (q : Reached v g) (w : World) (h : History) (r : Reached w h) → AllPast a w h r → AtOrBefore q w h r
-    → Past a (baseIn v) (g .log) (groupsMade q)
-unfolding AllPast
-past-at a {v} {g} q w h r P now = past-now a v g q P
-past-at a q w h r P (earlier {w = w′} {h = h′} {r = r′} e t) = past-at a q w′ h′ r′ (P .0) t
+-- the moment that it shows
+module _ (m : List ℕ) (v : World) (g : History) (q : Reached v g) (A : AsThen m (v .medium) g) (a : Archive) where
+  S : Shows m g
+  S = A .shows
 
--- ---- a reading: all moments up to now are past
+  there : recoverOf (length (v .medium)) (views (v .medium)) ≡ gives (recoveryWith (S .log) (S .state))
+  there = sym (A .same) ∙ S .accepts
 
-pub record Bounded {k : As} (a : Archive k) (b : ℕ) (log : List (List Entry)) : Type 0 where
-  pub low : b ≤ a .base
-  pub few : b ≡ a .base → length (itemsOf k log) ≤ a .count
+  base-then : S .state .head .base ≡ baseIn v
+  base-then = base-found (length (v .medium)) (views (v .medium)) (S .log) (S .state) there
 
-pub bounded-past : {k : As} {a : Archive k} {b : ℕ} {log made : List (List Entry)} → Bounded a b log → Past a b log made
-bounded-past {a = a} {b = b} B = by-eq b (a .base) (λ e. fewer e (B .few e)) (λ n. lower (omega (arith, B .low, n)))
+  serial-then : S .state .head .serial ≡ serialIn v
+  serial-then = serial-found (length (v .medium)) (views (v .medium)) (S .log) (S .state) there
 
--- and so of the moment before
-pub bounded-before : {k : As} (a : Archive k) (b b′ : ℕ) (g : History) (t : Told) → Rises (commitCounts g t) b b′ → Bounded a b′ (tell g t .log) → Bounded a b (g .log)
-bounded-before {k} a b b′ g t R B =
-    by-cases (commitCounts g t)
-    (λ c. let l = R .greater c in record { low = omega (arith, l, B .low); few = λ q. absurd (omega (arith, l, B .low, q)) })
-    (λ c.
-    let s = R .same c in
-    record {
-      low = omega (arith, s, B .low);
-      few = λ q.
-          let m = B .few (s ∙ q) in
-          let j = ap (λ (l : List (List Entry)). length (itemsOf k l)) (tell-joins g t c) in
-          let i = ap length (joins k (g .log) (groupsCounting g t)) in
-          omega (arith, m, j, i, length-append (itemsOf k (g .log)) (itemsOf k (groupsCounting g t)));
+  pub earlier-then : serialIn v < a .mark .serial → newsOf (a .mark) m ≡ refusedNews 28
+  earlier-then l = news-now m g S (baseIn v) (serialIn v) base-then serial-then a ∙ refused-earlier (a .mark) (mark (baseIn v) (serialIn v) (length (changesOf (g .log)))) l
+
+  none-then : serialIn v < a .mark .serial → read (a .mark) m ≡ none
+  unfolding read
+  none-then l = ap (readingBy (newsOf (a .mark) m) (views m)) (S .accepts) ∙ none-by (newsOf (a .mark) m) (views m) (recoveryWith (S .log) (S .state)) (earlier-then l)
+
+  read-then : KeptIn a v g q → read (a .mark) m ≡ some (seenAt a (baseIn v) (serialIn v) g)
+  read-then K = read-now m g S (baseIn v) (serialIn v) base-then serial-then a K
+
+  accepted-then : KeptIn a v g q → newsOf (a .mark) m .number ≡ 0
+  accepted-then K = ap (λ (n : News). n .number) (news-accepted m g S (baseIn v) (serialIn v) base-then serial-then a K)
+
+-- ---- along the filings
+
+record Going (w : World) (h : History) (r : Reached w h) (a : Archive) : Type 0 where
+  pub all : KeptSince a w h r
+  pub first : FirstPart (groupsMade r) a
+
+going-file : {w : World} {h : History} {r : Reached w h} {a : Archive} {x : Reading} (v : World) (g : History) (q : Reached v g) → Going w h r a → AtOrBefore q w h r
+    → a .mark .serial ≤ serialIn v → some x ≡ some (seenAt a (baseIn v) (serialIn v) g) → Going w h r (file a x)
+unfolding file
+going-file {w} {h} {r} {a} {x} v g q G p l e =
+    let K = kept-at q w h r (G .all) p l in
+    let M = made-since q w h r p in
+    rw (some-same e)
+    (record {
+      all = file-since a q l w h r p (G .all);
+      first =
+          record {
+            rest = changesOf (M .after);
+            is = ap changesOf (M .is) ∙ changes-append (groupsMade q) (M .after) ∙ ap (λ (l : List Entry). l ++ changesOf (M .after)) (sym (K .once));
+            settings = sets-filed g K (tallied v g q);
+          };
     })
 
-all-bounded : {k : As} (a : Archive k) (w : World) (h : History) (r : Reached w h) → Bounded a (baseIn w) (h .log) → AllPast a w h r
-unfolding AllPast
-all-bounded a w h (Reached.start v F e) B = bounded-past B
-all-bounded a w h (Reached.next v g e r) B = (all-bounded a v g r (bounded-before a (baseIn v) (baseIn w) g (happen v e .told) (base-rises v g r e) B), bounded-past B)
-
-pub bounded-read : {k : As} (a : Archive k) (b : ℕ) (h : History) → Bounded (file a (seen k b h)) b (h .log)
-bounded-read a b h = rw (file-seen a b h) (record { low = omega arith; few = λ e. omega arith })
-
--- ---- along a list
-
-unfoldable WaitPast : {k : As} → Archive k → Option (Reading k) → (w : World) (h : History) → Reached w h → Type 0
-WaitPast a none w h r = Unit {0}
-WaitPast a (some x) w h r = AllPast (file a x) w h r
-
-record Passed {k : As} (a : Archive k) (p : Option (Reading k)) (w : World) (h : History) (r : Reached w h) : Type 0 where
-  pub filed : AllPast a w h r
-  pub wait : WaitPast a p w h r
-
-wait-next : {k : As} (a : Archive k) (p : Option (Reading k)) (v : World) (g : History) (r : Reached v g) (e : Event v) → WaitPast a p v g r
-    → Waiting a p (baseIn (happen v e .after)) (tell g (happen v e .told) .log) (groupsMade r ++ groupsCounting g (happen v e .told))
-    → WaitPast a p (happen v e .after) (tell g (happen v e .told)) (Reached.next v g e r)
-unfolding WaitPast Waiting AllPast
-wait-next a none v g r e P W = tt
-wait-next a (some x) v g r e P W = (P, kept (W .kept))
-
-passed : {k : As} (w : World) (h : History) (r : Reached w h) (a : Archive k) (p : Option (Reading k)) → Filed w h r a p → Passed a p w h r
-unfolding AllPast WaitPast groupsMade
-passed w h r a p (start F e) = record { filed = kept (filed-along w h r a p (start F e) .kept); wait = tt }
-passed w h r a p (event {w = v} {h = g} {r = q} e F rule) =
-    let A = filed-along w h r a p (event e F rule) in
-    let P = passed v g q a p F in
-    record { filed = (P .filed, kept (A .kept)); wait = wait-next a p v g q e (P .wait) (A .waiting) }
-passed {k} w h r a p (reading {p = q} F) =
-    record { filed = passed w h r a q F .filed; wait = rw (read-is k w h r) (all-bounded (file a (seen k (baseIn w) h)) w h r (bounded-read a (baseIn w) h)) }
-passed w h r a p (filing {a = old} {x = x} F) = record { filed = passed w h r old (some x) F .wait; wait = tt }
-
--- ---- the claim
-
-made-since : {v : World} {g : History} (q : Reached v g) (w : World) (h : History) (r : Reached w h) → AtOrBefore q w h r → MadeSince (groupsMade q) (groupsMade r)
-unfolding groupsMade
-made-since q w h r now = none-since (groupsMade q)
-made-since q w h r (earlier {w = w′} {h = h′} {r = r′} e p) = more-since (groupsCounting h′ (happen w′ e .told)) (made-since q w′ h′ r′ p)
-
--- what is read, by what recovery gives
-module _ (k : As) (m : List ℕ) (x : Reading k) (f : read k m ≡ some x) where
-  not-read : {P : Type 0} (n : ℕ) → recoverOf (length m) (views m) ≡ refused n → P
-  unfolding readingOf
-  not-read n e = none-some (rw e at f)
-
-  is-read : (r : Recovery) → recoverOf (length m) (views m) ≡ gives r → readingWith (r .state .head .base) (itemsOf k (r .log)) (words (views m) (r .state .index)) ≡ x
-  unfolding readingOf
-  is-read r e = some-same (rw e at f)
-
-pub filed-of : {k : As} (a : Archive k) (x : Reading k) (b : ℕ) (log : List (List Entry)) → x .base ≡ b → x .items ≡ itemsOf k log → file a x .filed ≡ a .filed ++ newAt a b log
-unfolding file newOf newAt
-filed-of a x b log e i = rw (e, i)
-
-module _ {k : As} (a : Archive k) {b : ℕ} {log then : List (List Entry)} {c : ℕ} {today made : List (List Entry)} (K : Kept a c today made) (S : MadeSince then made) where
-  pub front : Past a b log then → a .base ≤ b → BeginsWith (itemsOf k made) (a .filed ++ newAt a b log)
-  front (lower l) h = absurd (omega arith)
-  front (fewer e n) h =
-      let z : newAt a b log ≡ [] = new-equal a b log e ∙ drop-of-length-le (itemsOf k log) {i = a .count} n in
-      record {
-        rest = newAt a c today;
-        is = sym (K .once) ∙ ap (λ (l : List (Item k)). l ++ newAt a c today) (sym (append-nil (a .filed)) ∙ ap (_++_ (a .filed)) (sym z));
-      }
-  front (kept T) h = record { rest = itemsOf k (S .after); is = ap (itemsOf k) (S .is) ∙ joins k then (S .after) ∙ ap (λ (l : List (Item k)). l ++ itemsOf k (S .after)) (sym (T .once)) }
-
-pub faded-filing : FadedFiling
-unfolding FadedFiling Fades
-faded-filing k w h r a p F m f x s l = go (fades w h r m f)
+going : (w : World) (h : History) (r : Reached w h) (a : Archive) → FadedFilings r a → Going w h r a
+unfolding Fades FiledOnce
+going w h r a (begun {since = since} {later = later} {p = p} F) =
+    let O = filed-once w h r a since later p F in
+    record { all = along-filings w h r a since p later F .good .all; first = record { rest = changesOf since; is = sym (O .all); settings = O .settings } }
+going w h r a (filing {a = old} {x = x} m F f e) = on (fades w h r m f) (going w h r old F)
   where
-    go : RefusedOrAsThen r m → BeginsWith (itemsOf k (groupsMade r)) (file a x .filed)
-    go (refuses n e) = not-read k m x s n e
-    go (shown t A) =
-        let v = t .world in
-        let g = t .history in
-        let S = A .shows in
-        let E = is-read k m x s (recoveryWith (S .log) (S .state)) (S .accepts) in
-        let b : x .base ≡ baseIn v =
-        ap (λ (y : Reading k). y .base) (sym E) ∙ base-found (length (v .medium)) (views (v .medium)) (S .log) (S .state) (sym (A .same) ∙ S .accepts) in
-        let i : x .items ≡ itemsOf k (g .log) = ap (λ (y : Reading k). y .items) (sym E) ∙ ap (itemsOf k) (S .same-log) in
-        rw (filed-of a x (baseIn v) (g .log) b i)
-        (front a (filed-along w h r a p F .kept) (made-since (t .reached) w h r (t .passed)) (past-at a (t .reached) w h r (passed w h r a p F .filed) (t .passed)) (rw b at l))
+    on : RefusedOrAsThen r m → Going w h r old → Going w h r (file old x)
+    on (refuses n k) G = none-some (sym (none-read (old .mark) m n k) ∙ e)
+    on (shown t A) G = at (decLt (serialIn (t .world)) (old .mark .serial))
+      where
+        at : Dec (serialIn (t .world) < old .mark .serial) → Going w h r (file old x)
+        at (yes l) = none-some (sym (none-then m (t .world) (t .history) (t .reached) A old l) ∙ e)
+        at (no l) =
+            let n : old .mark .serial ≤ serialIn (t .world) = omega arith in
+            going-file (t .world) (t .history) (t .reached) G (t .passed) n
+            (sym e ∙ read-then m (t .world) (t .history) (t .reached) A old (kept-at (t .reached) w h r (G .all) (t .passed) n))
+
+-- ---- the claims
+
+pub faded-first-part : FadedFirstPart
+unfolding FadedFirstPart
+faded-first-part w h r a F = going w h r a F .first
+
+pub faded-refused-with : FadedRefusedWith
+unfolding FadedRefusedWith Fades RefusedWith4To6
+faded-refused-with w h r a F m f = on (fades w h r m f) (going w h r a F .all)
+  where
+    on : RefusedOrAsThen r m → KeptSince a w h r
+        → (newsOf (a .mark) m .number ≡ 0) ⊎ (((4 ≤ newsOf (a .mark) m .number) × (newsOf (a .mark) m .number ≤ 6)) ⊎ (newsOf (a .mark) m .number ≡ 28))
+    on (refuses n k) K = let e : newsOf (a .mark) m .number ≡ n = ap (λ (x : News). x .number) (news-refused (a .mark) m n k) in inr (inl (rw e (refused-with-4-to-6 w h r m f n k)))
+    on (shown t A) K = at (decLt (serialIn (t .world)) (a .mark .serial))
+      where
+        at : Dec (serialIn (t .world) < a .mark .serial)
+            → (newsOf (a .mark) m .number ≡ 0) ⊎ (((4 ≤ newsOf (a .mark) m .number) × (newsOf (a .mark) m .number ≤ 6)) ⊎ (newsOf (a .mark) m .number ≡ 28))
+        at (yes l) = inr (inr (ap (λ (x : News). x .number) (earlier-then m (t .world) (t .history) (t .reached) A a l)))
+        at (no l) = inl (accepted-then m (t .world) (t .history) (t .reached) A a (kept-at (t .reached) w h r K (t .passed) (omega arith)))

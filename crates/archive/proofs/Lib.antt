@@ -1,5 +1,7 @@
-pub mod Base
+pub mod Kept
+pub mod Moments
 pub mod Once
-pub mod Careful
 pub mod Faded
+pub mod Periods
 pub mod Examples
+pub mod TooEarly

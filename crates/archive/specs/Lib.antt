@@ -1,5 +1,4 @@
 pub mod Archive
-pub mod Careful
-pub mod Base
 pub mod Faded
+pub mod Periods
 pub mod Examples

@@ -1,49 +1,58 @@
--- The archive, of the code.
-use mathlib.Core.Path.{_≡_, refl, sym, ap, ap₂, _∙_}
+-- The archive of the code: what it reads by the answers of the calls is what the definitions read, so that its filings along a run are filings along the list
+-- of that run.
+use mathlib.Core.Path.{_≡_, refl, sym, ap, ap₂, subst, _∙_}
+use mathlib.Core.Logic.{_⊎_}
 use mathlib.Core.Bool.{true}
 use mathlib.Core.Option.{Option, none, some}
 use mathlib.Core.List.{List, [], _∷_, _++_}
-use Prim.Native.Nat.{ℕ, _<_}
+use Prim.Native.Nat.{ℕ, _≤_, _<_}
 use native.Mathlib.Omega.{arith}
-use lib.ListN.{length, getD, List·getD-append}
+use lib.ListN.{length, getD, drop, List·getD-append}
 use lib.Seq.{ext-getD}
 use Rattle.lists.specs.declared.Cell.{Cell}
 use Rattle.lists.specs.Lists.{every}
 use Rattle.lists.specs.Needs.{Answer, refused, gives, andThen, under}
-use Rattle.lists.specs.Cells.{cell, Entry, pairs, keysOf, wordsOf}
-use Rattle.lists.proofs.Laws.{by-cases, true-false, tests, length-pairs, get-pairs, length-keys, length-words, key-at, word-at, answered-gives, gave-value, given-refused}
+use Rattle.lists.specs.Cells.{cell, Entry, Setting, pairs, keysOf, wordsOf, listed}
+use Rattle.lists.proofs.Laws.{by-cases, true-false, tests, length-pairs, get-pairs, length-keys, length-words, key-at, word-at, answered-gives, gave-value, gave-number, given-refused}
 use Rattle.codec.specs.Codec.{putAt}
 use Rattle.page.specs.Pages.{changesOf}
 use Rattle.flash.specs.Medium.{views}
+use Rattle.nodes.specs.Nodes.{words}
 use Rattle.state.specs.State.{Held, meaning}
-use Rattle.recovery.specs.Recovery.{Recovery, base, recoverNeeds, recover as recoverOf}
+use Rattle.recovery.specs.Recovery.{Recovery, recoveryWith, recoverNeeds, recover as recoverOf}
 use Rattle.recover.specs.declared.Recovered.{Recovered}
 use Rattle.recover.specs.Recovers.{Recovers}
 use Rattle.readings.specs.Readings.{longEnough, putInto, filedInto, numbersFrom, filedLog, readLog, filedSettings}
 use Rattle.filing.specs.declared.Counted.{Counted}
 use Rattle.filing.specs.Filed.{Left, leftBy, leaving, ListsSettings}
+use Rattle.log_reader.specs.declared.LogPlace.{LogPlace}
 use Rattle.log_reader.specs.declared.ReadChange.{ReadChange}
-use Rattle.valve_log.specs.History.{History, tell}
-use Rattle.valve_log.specs.Reached.{World, Event, Shows, Point3}
-use Rattle.valve_log.proofs.Point3.{point3}
-use Rattle.fading.specs.Made.{groupsCounting}
-use Rattle.fading.proofs.Standing.{nextSerial, next-within}
-use Rattle.fading.proofs.Same.{accepted, recover-cases}
-use Rattle.fading.proofs.Fading.{next-two, as-since}
-use Rattle.archive.specs.Archive.{changes, Reading, readingWith, Archive, newOf, newIn, file, commitCounts}
-use Rattle.archive.specs.Base.{Rises}
-use Rattle.archive.specs.Faded.{BeginsWith}
-use Rattle.archive.proofs.Base.{base-found, base-rises}
-use Rattle.archive.proofs.Once.{newAt, seen, new-seen, Waiting, along-checked}
-use Rattle.archive.proofs.Careful.{Taken, taken-start, taken-told, taken-read, taken-file}
-use Rattle.archive.proofs.Faded.{Past, kept, Bounded, bounded-past, bounded-before, bounded-read, filed-of, front}
-use Rattle.journal.specs.Run.{Machine, worldOf, Moves, toldBy, Run, Point3OfCode}
-use Rattle.journal.specs.Reader.{GivesLog, stopped, given, noneLeft}
-use Rattle.journal.specs.Fading.{RunAtOrBefore, now, earlier, groupsMadeBy}
-use Rattle.journal.specs.Archive.{changesGiven, askedToTheEnd, LogReadBy, inLists, changeByChange, ReadBy, answers, CarefulRun, start, move, reading, filing, FiledOnceOfCode, FadedFilingOfCode}
-use Rattle.journal.proofs.Chain.{moves, answers-told, runs, found-state, point3-of-code}
-use Rattle.journal.proofs.Reader.{out}
-use Rattle.journal.proofs.Fading.{moment-of, within-run, made-since}
+use Rattle.log_reader.specs.Reader.{AskedInTurn, GivesLog, stopped, given, noneLeft}
+use Rattle.log_reader.proofs.FirstToLast.{reads-log}
+use Rattle.log_reader.proofs.Form.{answers as asked}
+use Rattle.news.specs.declared.News.{News}
+use Rattle.news.specs.News.{Mark, mark, refusedNews, newsAfter, newsOf}
+use Rattle.valve_log.specs.History.{History, start as noHistory, Told, beganCommit, tell}
+use Rattle.valve_log.specs.Reached.{World, lentAnew, stepDue, Event, happen, finishes, Reached, Shows, Point3}
+use Rattle.valve_log.specs.Reached as reached
+use Rattle.valve_log.specs.Made.{groupsCounting, groupsMade}
+use Rattle.valve_log.proofs.Point3.{point3, words-are}
+use Rattle.fading.specs.Fading.{Faded, RefusedWith4To6}
+use Rattle.fading.proofs.Same.{recovers, recover-cases}
+use Rattle.fading.proofs.Fading.{refused-with-4-to-6}
+use Rattle.archive.specs.Archive.{Reading, readingWith, readingBy, read, Archive, nothingFiled, file, Filings, FiledInOrder, FiledOnce, NewsRight, CheckPasses}
+use Rattle.archive.specs.Archive as archive
+use Rattle.archive.specs.Faded.{FadedFilings, FirstPart, FadedFirstPart, FadedRefusedWith}
+use Rattle.archive.specs.Faded as faded
+use Rattle.archive.proofs.Once.{filed-once, check-passes}
+use Rattle.archive.proofs.Faded.{faded-first-part, faded-refused-with}
+use Rattle.journal.specs.Run.{Machine, worldOf, Moves, toldBy, Run, Handed, Point3OfCode}
+use Rattle.journal.specs.Fading.{TurnedBack, TurnedBackOrHanded, refuses, hands, FadesOfCode, groupsMadeBy}
+use Rattle.journal.specs.Archive.{changesGiven, askedToTheEnd, LogReadBy, inLists, changeByChange, ReadBy, answers, FilingsRun, start, move, reading, filing}
+use Rattle.journal.specs.Archive.{FiledOnceOfCode, CheckPassesOfCode, FadedFilingsRun, begun, FadedFilingOfCode}
+use Rattle.journal.specs.Archive as code
+use Rattle.journal.proofs.Chain.{moves, answers-told, answers-finished, formatting, runs, found-state, point3-of-code}
+use Rattle.journal.proofs.Fading.{fades-of-code}
 
 -- ---- what stands in lent lists
 
@@ -96,137 +105,132 @@ all-given (noneLeft n g) t = rw n (none-given g)
 
 -- ---- a reading
 
-abbrev baseNow : Machine → ℕ
-baseNow x = base (views (x .medium))
+-- of a medium that recovery accepts with this log and state, and that hands the settings of some history
+module _ (m : List ℕ) (g : History) (H : Handed m g) (log : List (List Entry)) (s : Held) (accepts : recoverOf (length m) (views m) ≡ gives (recoveryWith log s)) where
+  log-read : (l : List Entry) → LogReadBy m l → l ≡ changesOf log
+  unfolding readLog andThen filedLog
+  log-read l (inLists ks ws ns ks′ ws′ ns′ c p f) =
+      filed-back c ks ws ks′ ws′ (ns ∷ []) (ns′ ∷ []) (numbersFrom 0 log ∷ []) (changesOf log)
+      (p ∙ ap (λ (R : Answer Recovery). leaving (ks ∷ ws ∷ ns ∷ []) (andThen R (λ r. filedLog (ks ∷ ws ∷ ns ∷ []) (r .log)))) accepts) f
+  log-read l (changeByChange p cs e a t) = all-given (asked (reads-log m log s accepts) (subst (λ (q : LogPlace). AskedInTurn m q cs) e a)) t
 
--- the log of a medium that shows a history
-log-read : (m : List ℕ) (h : History) → Shows m h → (log : List Entry) → LogReadBy m log → log ≡ changesOf (h .log)
-unfolding readLog andThen filedLog
-log-read m h S log (inLists ks ws ns ks′ ws′ ns′ c l f) =
-    filed-back c ks ws ks′ ws′ (ns ∷ []) (ns′ ∷ []) (numbersFrom 0 (h .log) ∷ []) (changesOf (h .log))
-    (l ∙ ap (λ (R : Answer Recovery). leaving (ks ∷ ws ∷ ns ∷ []) (andThen R (λ r. filedLog (ks ∷ ws ∷ ns ∷ []) (r .log)))) (S .accepts)
-    ∙ ap (λ (t : List (List Entry)). leaving (ks ∷ ws ∷ ns ∷ []) (filedLog (ks ∷ ws ∷ ns ∷ []) t)) (S .same-log)) f
-log-read m h S log (changeByChange p cs e a t) = all-given (out m h S .log p cs e a) t
+  settings-read : (r : Recovered) → Recovers m r → (valves us valves′ us′ : List ℕ) (c : Counted) → ListsSettings m (r .state) valves us c valves′ us′ → c .number ≡ 0
+      → pairs (c .count) valves′ us′ ≡ words (views m) (s .index)
+  unfolding filedSettings
+  settings-read r p valves us valves′ us′ c l f =
+      filed-back c valves us valves′ us′ [] [] [] (g .settings) (H .list r valves us valves′ us′ c p l) f
+      ∙ sym (words-are (views m) (H .settings r p)) ∙ ap (λ (x : Held). words (views m) (x .index)) (found-state m log s accepts r p)
 
+  read-by-is : (k : Mark) (z : Reading) → ReadBy k m z → read k m ≡ some z
+  unfolding read readingBy
+  read-by-is k z (answers n e o l p r q valves us valves′ us′ c i f) =
+      ap (readingBy (newsOf k m) (views m)) accepts ∙ rw (← e, o, ← log-read l p, ← settings-read r q valves us valves′ us′ c i f) refl
+
+-- after a run
 module _ (x : Machine) (h : History) (r : Run x h) where
   shows-run : Shows (x .medium) h
-  unfolding Point3
-  shows-run = point3 (worldOf x) h (runs x h r)
+  shows-run = unfold Point3 in point3 (worldOf x) h (runs x h r)
 
-  settings-read : (a : Recovered) → Recovers (x .medium) a → (valves us valves′ us′ : List ℕ) (c : Counted) → ListsSettings (x .medium) (a .state) valves us c valves′ us′ → c .number ≡ 0
-      → pairs (c .count) valves′ us′ ≡ h .settings
-  unfolding Point3OfCode filedSettings
-  settings-read a p valves us valves′ us′ c s g = filed-back c valves us valves′ us′ [] [] [] (h .settings) (point3-of-code x h r .list a valves us valves′ us′ c p s) g
+  handed-run : Handed (x .medium) h
+  handed-run = unfold Point3OfCode in point3-of-code x h r
 
-  base-read : (a : Recovered) → Recovers (x .medium) a → a .state .head .base ≡ baseNow x
-  base-read a p =
-      ap (λ (t : Held). t .head .base) (found-state (x .medium) (shows-run .log) (shows-run .state) (shows-run .accepts) a p)
-      ∙ base-found (length (x .medium)) (views (x .medium)) (shows-run .log) (shows-run .state) (shows-run .accepts)
+  run-read : (k : Mark) (z : Reading) → ReadBy k (x .medium) z → read k (x .medium) ≡ some z
+  run-read = read-by-is (x .medium) h handed-run (shows-run .log) (shows-run .state) (shows-run .accepts)
 
-  read-by-is : (z : Reading changes) → ReadBy (x .medium) z → z ≡ seen changes (baseNow x) h
-  read-by-is z (answers a p o log l valves us valves′ us′ c s g) =
-      rw (base-read a p, log-read (x .medium) h shows-run log l, settings-read a p valves us valves′ us′ c s g)
+  run-log : (log : List Entry) → LogReadBy (x .medium) log → log ≡ changesOf (h .log)
+  run-log log l = log-read (x .medium) h handed-run (shows-run .log) (shows-run .state) (shows-run .accepts) log l ∙ ap changesOf (shows-run .same-log)
 
--- ---- along a run
+  -- of a faded medium; one that recovery refuses is not read
+  refused-read : {P : Type 0} (k : Mark) (m : List ℕ) (n : ℕ) → Faded (x .medium) m → recoverOf (length m) (views m) ≡ refused n → (z : Reading) → ReadBy k m z → P
+  unfolding newsOf newsAfter RefusedWith4To6
+  refused-read k m n f e z (answers a q o l p b t valves us valves′ us′ c i g) =
+      let w = refused-with-4-to-6 (worldOf x) h (runs x h r) m f n e in
+      let d : a ≡ refusedNews n = q ∙ ap (newsAfter k) e in
+      let y : n ≡ 0 = sym (ap (λ (u : News). u .number) d) ∙ o in
+      absurd (omega (arith, w .0, y))
 
-run-rises : (x y : Machine) (h : History) (r : Run x h) (e : Event (worldOf x)) (v : Moves x e y) → Rises (commitCounts h (toldBy x y e v)) (baseNow x) (baseNow y)
-run-rises x y h r e v = rw (answers-told x y e v, ap (λ (w : World). w .medium) (moves x y e v)) (base-rises (worldOf x) h (runs x h r) e)
+  accepted-handed : {log : List (List Entry)} {s : Held} {P : Type 0} (k : Mark) (m : List ℕ) → recoverOf (length m) (views m) ≡ gives (recoveryWith log s) → (n : ℕ) → TurnedBack m n
+      → (z : Reading) → ReadBy k m z → P
+  unfolding andThen
+  accepted-handed {s = s} k m e n T z (answers a q o l p b t valves us valves′ us′ c i g) =
+      let y : b .number ≡ 0 = gave-number (b .number) (meaning (b .state)) s (t ∙ ap (λ (R : Answer Recovery). andThen R (λ u. gives (u .state))) e) in
+      let w = T .number .0 in
+      absurd (omega (arith, y, T .recovery b t))
 
-run-taken : (x : Machine) (h : History) (r : Run x h) (a : Archive changes) (since later : List (List Entry)) (p : Option (Reading changes))
-    → CarefulRun x h r a since p later → Taken a since p later (baseNow x) h (groupsMadeBy r)
+  faded-read : (k : Mark) (m : List ℕ) → Faded (x .medium) m → (z : Reading) → ReadBy k m z → read k m ≡ some z
+  unfolding FadesOfCode
+  faded-read k m f z R = recover-cases (length m) (views m) (λ n e. refused-read k m n f e z R) (λ e. found e (fades-of-code x h r m f))
+    where
+      found : every (tests (recoverNeeds (length m) (views m))) ≡ true → TurnedBackOrHanded r m → read k m ≡ some z
+      found e (hands t H) = read-by-is m (t .history) (H .handed) _ _ (recovers (length m) (views m) e) k z R
+      found e (refuses n T) = accepted-handed k m (recovers (length m) (views m) e) n T z R
+
+-- ---- filings along a run are filings along its list
+
+record OnList (w : World) (h : History) (made : List (List Entry)) (a : Archive) (since : List (List Entry)) (p : Option Reading) (later : List (List Entry)) : Type 0 where
+  pub list : Reached w h
+  pub made-is : groupsMade list ≡ made
+  pub filings : Filings w h list a since p later
+
+list-start : (w w′ : World) → w′ ≡ happen w Event.step .after → (F : reached.Formatting w) → finishes (stepDue w) ≡ true → OnList (lentAnew w′) noHistory [] nothingFiled [] none []
+unfolding groupsMade
+list-start w w′ i F e = rw i (record { list = Reached.start w F e; made-is = refl; filings = archive.start F e })
+
+list-next : {a : Archive} {since : List (List Entry)} {p : Option Reading} {later made : List (List Entry)} (w : World) (h : History) (e : Event w) (w′ : World) (t : Told)
+    → w′ ≡ happen w e .after → t ≡ happen w e .told → OnList w h made a since p later → (t ≡ beganCommit → since ≡ [])
+    → OnList w′ (tell h t) (made ++ groupsCounting h t) a (since ++ groupsCounting h t) p (later ++ groupsCounting h t)
+unfolding groupsMade
+list-next w h e w′ t i j L rule =
+    let rule′ : happen w e .told ≡ beganCommit → _ ≡ [] = λ q. rule (j ∙ q) in
+    rw (i, j)
+    (record { list = Reached.next w h e (L .list); made-is = ap (λ (l : List (List Entry)). l ++ groupsCounting h (happen w e .told)) (L .made-is); filings = archive.event e (L .filings) rule′ })
+
+on-list : (x : Machine) (h : History) (r : Run x h) (a : Archive) (since : List (List Entry)) (p : Option Reading) (later : List (List Entry))
+    → FilingsRun x h r a since p later → OnList (worldOf x) h (groupsMadeBy r) a since p later
 unfolding groupsMadeBy
-run-taken x h r a since later p (start f v last) = taken-start changes (baseNow x)
-run-taken x h r a since later p (move {x = y} {h = g} {r = q} {since = s} {later = l} {e = e} v C rule) =
-    taken-told (baseNow y) (baseNow x) g (toldBy y x e v) (groupsMadeBy q) (run-rises y x g q e v) (run-taken y g q a s l p C) rule
-run-taken x h r a since later p (reading {later = l} {p = q} {z = z} C R) = rw (read-by-is x h r z R) (taken-read (run-taken x h r a since l q C))
-run-taken x h r a since later p (filing {a = old} {since = s} {z = z} C) = taken-file (run-taken x h r old s since (some z) C)
-
-new-by : (x : Machine) (h : History) → Run x h → (a : Archive changes) (z : Reading changes) → ReadBy (x .medium) z → newOf a z ≡ newAt a (baseNow x) (h .log)
-new-by x h r a z R = ap (newOf a) (read-by-is x h r z R) ∙ (unfold newIn in new-seen a (baseNow x) h)
+on-list x h r a since p later (start {x = z} {y = y} f v last) =
+    list-start (worldOf z) (worldOf y) (moves z y Event.step v) (formatting z f) (sym (answers-finished z y v) ∙ last)
+on-list x h r a since p later (move {x = y} {h = g} {r = q} {since = s} {later = l} {e = e} v C rule) =
+    list-next (worldOf y) g e (worldOf x) (toldBy y x e v) (moves y x e v) (answers-told y x e v) (on-list y g q a s p l C) rule
+on-list x h r a since p later (reading {later = l} {p = q} {z = z} C R) =
+    let L = on-list x h r a since q l C in
+    record { list = L .list; made-is = L .made-is; filings = rw (run-read x h r (a .mark) z R) at (archive.reading (L .filings)) }
+on-list x h r a since p later (filing {a = old} {since = s} {z = z} C) =
+    let L = on-list x h r old s (some z) since C in
+    record { list = L .list; made-is = L .made-is; filings = archive.filing (L .filings) }
 
 pub filed-once-of-code : FiledOnceOfCode
-unfolding FiledOnceOfCode
+unfolding FiledOnceOfCode FiledOnce
 filed-once-of-code x h r a since later p C =
-    let T = run-taken x h r a since later p C in
-    record {
-      all = ap (_++_ (a .filed)) (sym (T .new)) ∙ T .along .kept .once;
-      new = λ z R. new-by x h r a z R ∙ T .new;
-      checked = λ z e. along-checked (rw e at (T .along));
-    }
+    let L = on-list x h r a since p later C in
+    subst (λ (made : List (List Entry)). FiledInOrder made a since) (L .made-is) (filed-once (worldOf x) h (L .list) a since later p (L .filings))
 
--- ---- a faded medium
+pub check-passes-of-code : CheckPassesOfCode
+unfolding CheckPassesOfCode CheckPasses
+check-passes-of-code x h r a since later p C n e log l =
+    let L = on-list x h r a since p later C in
+    rw (e, run-log x h r log l) (check-passes (worldOf x) h (L .list) a since later p (L .filings))
 
--- at every moment of the run the archive has filed all that was there, or is as it should be then
-unfoldable RunPast : Archive changes → (x : Machine) (h : History) → Run x h → Type 0
-RunPast a x h (Run.start z y f v last) = Past a (baseNow x) [] []
-RunPast a x h (Run.next z y k e r v) = RunPast a z k r × Past a (baseNow x) (tell k (toldBy z y e v) .log) (groupsMadeBy r ++ groupsCounting k (toldBy z y e v))
+-- ---- faded media
 
-past-now : (a : Archive changes) (x : Machine) (h : History) (r : Run x h) → RunPast a x h r → Past a (baseNow x) (h .log) (groupsMadeBy r)
-unfolding RunPast groupsMadeBy
-past-now a x h (Run.start z y f v last) P = P
-past-now a x h (Run.next z y k e r v) P = P .1
+record FadedOnList (w : World) (h : History) (made : List (List Entry)) (a : Archive) : Type 0 where
+  pub list : Reached w h
+  pub made-is : groupsMade list ≡ made
+  pub filings : FadedFilings list a
 
-past-at : (a : Archive changes) {y : Machine} {g : History} (q : Run y g) (x : Machine) (h : History) (r : Run x h) → RunPast a x h r → RunAtOrBefore q x h r
-    → Past a (baseNow y) (g .log) (groupsMadeBy q)
-unfolding RunPast
-past-at a {y} {g} q x h r P now = past-now a y g q P
-past-at a q x h r P (earlier {x = x′} {z = z} {h = h′} {r = r′} e v t) = past-at a q x′ h′ r′ (P .0) t
-
-run-bounded : (a : Archive changes) (x : Machine) (h : History) (r : Run x h) → Bounded a (baseNow x) (h .log) → RunPast a x h r
-unfolding RunPast
-run-bounded a x h (Run.start z y f v last) B = bounded-past B
-run-bounded a x h (Run.next z y k e r v) B = (run-bounded a z k r (bounded-before a (baseNow z) (baseNow x) k (toldBy z y e v) (run-rises z y k r e v) B), bounded-past B)
-
-unfoldable WaitPast : Archive changes → Option (Reading changes) → (x : Machine) (h : History) → Run x h → Type 0
-WaitPast a none x h r = Unit {0}
-WaitPast a (some z) x h r = RunPast (file a z) x h r
-
-record Passed (a : Archive changes) (p : Option (Reading changes)) (x : Machine) (h : History) (r : Run x h) : Type 0 where
-  pub filed : RunPast a x h r
-  pub wait : WaitPast a p x h r
-
-wait-next : (a : Archive changes) (p : Option (Reading changes)) (x y : Machine) (h : History) (e : Event (worldOf x)) (r : Run x h) (v : Moves x e y) → WaitPast a p x h r
-    → Waiting a p (baseNow y) (tell h (toldBy x y e v) .log) (groupsMadeBy r ++ groupsCounting h (toldBy x y e v)) → WaitPast a p y (tell h (toldBy x y e v)) (Run.next x y h e r v)
-unfolding WaitPast Waiting RunPast
-wait-next a none x y h e r v P W = tt
-wait-next a (some z) x y h e r v P W = (P, kept (W .kept))
-
-passed : (x : Machine) (h : History) (r : Run x h) (a : Archive changes) (since later : List (List Entry)) (p : Option (Reading changes)) → CarefulRun x h r a since p later → Passed a p x h r
-unfolding RunPast WaitPast groupsMadeBy
-passed x h r a since later p (start f v last) = record { filed = kept (run-taken x h r a since later p (start f v last) .along .kept); wait = tt }
-passed x h r a since later p (move {x = y} {h = g} {r = q} {since = s} {later = l} {e = e} v C rule) =
-    let A = run-taken x h r a since later p (move v C rule) .along in
-    let P = passed y g q a s l p C in
-    record { filed = (P .filed, kept (A .kept)); wait = wait-next a p y x g e q v (P .wait) (A .waiting) }
-passed x h r a since later p (reading {later = l} {p = q} {z = z} C R) =
-    record {
-      filed = passed x h r a since l q C .filed;
-      wait = rw (read-by-is x h r z R) (run-bounded (file a (seen changes (baseNow x) h)) x h r (bounded-read a (baseNow x) h));
-    }
-passed x h r a since later p (filing {a = old} {since = s} {z = z} C) = record { filed = passed x h r old s since (some z) C .wait; wait = tt }
-
--- recovery accepts where its answer is no refusal
-not-refused : {P : Type 0} (m : List ℕ) (a : Recovered) → Recovers m a → a .number ≡ 0 → (n : ℕ) → recoverOf (length m) (views m) ≡ refused n → P
-unfolding andThen
-not-refused m a p o n e =
-    given-refused (meaning (a .state)) n (sym (answered-gives (a .number) (meaning (a .state)) o) ∙ p ∙ ap (λ (R : Answer Recovery). andThen R (λ x. gives (x .state))) e)
+faded-on-list : (x : Machine) (h : History) (r : Run x h) (a : Archive) → FadedFilingsRun r a → FadedOnList (worldOf x) h (groupsMadeBy r) a
+faded-on-list x h r a (begun {since = since} {later = later} {p = p} C) =
+    let L = on-list x h r a since p later C in
+    record { list = L .list; made-is = L .made-is; filings = faded.begun (L .filings) }
+faded-on-list x h r a (code.FadedFilingsRun.filing {a = old} {z = z} m F f R) =
+    let L = faded-on-list x h r old F in
+    record { list = L .list; made-is = L .made-is; filings = faded.filing m (L .filings) f (faded-read x h r (old .mark) m f z R) }
 
 pub faded-filing-of-code : FadedFilingOfCode
-unfolding FadedFilingOfCode
-faded-filing-of-code x h r a since later p C m f z (answers b q o log l valves us valves′ us′ c s g) le =
-    recover-cases (length m) (views m) (λ n e. not-refused m b q o n e) found
-  where
-    found : every (tests (recoverNeeds (length m) (views m))) ≡ true
-        → BeginsWith (changesOf (groupsMadeBy r)) (file a (readingWith (b .state .head .base) log (pairs (c .count) valves′ us′)) .filed)
-    found e =
-        let A = moment-of x h r (nextSerial (views m)) (next-two (views m) (accepted (length m) (views m) e)) (next-within (views m) (views (x .medium)) (within-run x h r m f)) in
-        let t = A .moment in
-        let y = t .machine in
-        let k = t .history in
-        let T = as-since (worldOf x) (worldOf y) k (runs y k (t .run)) m (f .size) (within-run x h r m f) (A .stand) e in
-        let S = T .shows in
-        let i : b .state .head .base ≡ baseNow y =
-        ap (λ (w : Held). w .head .base) (found-state m (S .log) (S .state) (S .accepts) b q) ∙ base-found (length (y .medium)) (views (y .medium)) (S .log) (S .state) (sym (T .same) ∙ S .accepts) in
-        rw (filed-of a (readingWith (b .state .head .base) log (pairs (c .count) valves′ us′)) (baseNow y) (k .log) i (log-read m k S log l))
-        (front a (run-taken x h r a since later p C .along .kept) (made-since (t .run) x h r (t .passed))
-        (past-at a (t .run) x h r (passed x h r a since later p C .filed) (t .passed)) (rw i at le))
+unfolding FadedFilingOfCode FadedFirstPart FadedRefusedWith
+faded-filing-of-code x h r a F =
+    let L = faded-on-list x h r a F in
+    record {
+      first = subst (λ (made : List (List Entry)). FirstPart made a) (L .made-is) (faded-first-part (worldOf x) h (L .list) a (L .filings));
+      refusals = λ m f n e. rw e (faded-refused-with (worldOf x) h (L .list) a (L .filings) m f);
+    }

@@ -30,12 +30,13 @@ use Rattle.valve_log.specs.History.{History, history, nothing}
 use Rattle.valve_log.specs.Reached.{World, Event, happen, Reached, Shows, Point3}
 use Rattle.valve_log.proofs.Point3.{reached-upheld, point3}
 use Rattle.fading.specs.Fading.{Faded, AsThen, RefusedWith4To6}
-use Rattle.fading.specs.Made.{groupsCounting}
+use Rattle.valve_log.specs.Made.{groupsCounting, Tallied}
+use Rattle.valve_log.proofs.Made.{tell-tallied, start-tallied}
 use Rattle.fading.proofs.Standing.{Within, nextSerial, next-within}
 use Rattle.fading.proofs.Same.{accepted, recovers, recover-cases, state-found, serial-found}
 use Rattle.fading.proofs.Moments.{PageChange, happen-change, OlderStand, older-apart, Along, along-now, along-next, AtSerial, at-now, at-next, start-next}
 use Rattle.fading.proofs.Fading.{faded-within, next-two, as-since, refused-with-4-to-6}
-use Rattle.fading.proofs.Made.{Tallied, tell-tallied, start-tallied, MadeSince, none-since, more-since, log-among, settings-then}
+use Rattle.fading.proofs.Made.{MadeSince, none-since, more-since, log-among, settings-then}
 use Rattle.journal.specs.Run.{Machine, worldOf, Moves, toldBy, Run, Handed}
 use Rattle.journal.specs.Reader.{ReadOut}
 use Rattle.journal.specs.Fading.{RunAtOrBefore, now, earlier, MomentOfRun, TurnedBack, HandedAsThen, TurnedBackOrHanded, refuses, hands, FadesOfCode}
@@ -62,7 +63,7 @@ moved x y h e r v =
     let m : y .medium ≡ happen (worldOf x) e .after .medium = ap (λ (w : World). w .medium) (moves x y e v) in
     rw m (happen-change (x .medium) (worldOf x .state) (x .buffer) h e (reached-upheld (worldOf x) h (runs x h r)))
 
-pub moment-of : (x : Machine) (h : History) (r : Run x h) (n : ℕ) → 2 ≤ n → n ≤ nextSerial (views (x .medium)) → AtSerial (MomentOfRun r) (mediumThen r) (x .medium) n
+moment-of : (x : Machine) (h : History) (r : Run x h) (n : ℕ) → 2 ≤ n → n ≤ nextSerial (views (x .medium)) → AtSerial (MomentOfRun r) (mediumThen r) (x .medium) n
 moment-of x h (Run.start z y f v last) n lo hi =
     let m : y .medium ≡ happen (worldOf z) Event.step .after .medium = ap (λ (w : World). w .medium) (moves z y Event.step v) in
     let a : nextSerial (views (y .medium)) ≤ 2 = rw m (start-next (worldOf z) (formatting z f) (sym (answers-finished z y v) ∙ last)) in
@@ -147,7 +148,7 @@ module _ (m : List ℕ) (n : ℕ) (among : (4 ≤ n) × (n ≤ 6)) (e : recover 
 -- ---- the claim
 
 module _ (x : Machine) (h : History) (r : Run x h) (m : List ℕ) (f : Faded (x .medium) m) where
-  pub within-run : Within (views m) (views (x .medium))
+  within-run : Within (views m) (views (x .medium))
   within-run = faded-within (worldOf x) h (reached-upheld (worldOf x) h (runs x h r)) m f
 
   -- at a moment at which the next serial was the faded medium's
@@ -174,7 +175,7 @@ unfolding groupsMadeBy
 run-tallied x h (Run.start z y f v last) = start-tallied
 run-tallied x h (Run.next z y k e r v) = tell-tallied (groupsMadeBy r) k (run-tallied z k r) (toldBy z y e v)
 
-pub made-since : {y : Machine} {g : History} (q : Run y g) (x : Machine) (h : History) (r : Run x h) → RunAtOrBefore q x h r → MadeSince (groupsMadeBy q) (groupsMadeBy r)
+made-since : {y : Machine} {g : History} (q : Run y g) (x : Machine) (h : History) (r : Run x h) → RunAtOrBefore q x h r → MadeSince (groupsMadeBy q) (groupsMadeBy r)
 unfolding groupsMadeBy
 made-since q x h r now = none-since (groupsMadeBy q)
 made-since q x h r (earlier {x = x′} {z = z} {h = h′} {r = r′} e v p) = more-since (groupsCounting h′ (toldBy x′ z e v)) (made-since q x′ h′ r′ p)

@@ -32,3 +32,10 @@ pub record Finished (m : List ℕ) : Type 0 where
 
 unfoldable pub FormattingFinishes : Type 0
 FormattingFinishes = (m : List ℕ) → Bytes m → sizeOk (length m) ≡ true → Finished m
+
+-- Whatever stood on a medium: formatted, it is the same byte for byte, and so is the state. So the same calls then lead to the same media, and nothing on one
+-- tells which formatting it comes after.
+unfoldable pub FormattedAlike : Type 0
+FormattedAlike =
+    (m m′ : List ℕ) → Bytes m → Bytes m′ → sizeOk (length m) ≡ true → length m′ ≡ length m → (s : Held) → formatOf (length m) ≡ gives s
+    → stepsOn (suc (length m / 4096)) (world m′ (some s) fresh) ≡ stepsOn (suc (length m / 4096)) (world m (some s) fresh)

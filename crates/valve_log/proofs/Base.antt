@@ -1,5 +1,5 @@
--- What each event does to the base that recovery finds: it rises where a commit counts, and else it stays.
-use mathlib.Core.Path.{_≡_, refl, sym, ap, _∙_}
+-- What each event does to the base that recovery finds: it rises where a commit counts, to a serial that the commit's pages began with, and else it stays.
+use mathlib.Core.Path.{_≡_, refl, sym, ap, subst, _∙_}
 use mathlib.Core.Bool.{Bool, true, false, cond}
 use mathlib.Core.Option.{Option, none, some}
 use mathlib.Core.List.{List, [], _∷_, _++_}
@@ -9,51 +9,52 @@ use lib.ListN.{length, length-append}
 use borrow.Author.Tests.{leb-true, leb-false, ltb-true}
 use Rattle.lists.specs.Needs.{Answer, refused, gives}
 use Rattle.lists.specs.Cells.{Entry, Place, Setting}
-use Rattle.lists.proofs.Laws.{by-cases, true-false, every-at, tests, checked-cases, some-same}
+use Rattle.lists.proofs.Laws.{by-cases, true-false, every-at, tests, checked-cases, some-same, same-given}
 use Rattle.page.specs.Pages.{Page, View, pagesFor}
 use Rattle.flash.specs.Medium.{views, programmed, erased}
 use Rattle.flash.specs.Cuts.{CutProgram}
 use Rattle.flash.proofs.Steps.{program-views}
 use Rattle.flash.proofs.Cuts.{CutViews, cut-erase-views}
+use Rattle.index.specs.Index.{mostValves}
 use Rattle.nodes.specs.Nodes.{live}
 use Rattle.state.specs.State.{Pending, Held, doneFit, basePages, pendingFit, fitWith, bufferedIn}
-use Rattle.recovery.specs.Recovery.{Placed, Group, between, walk, groupsOf, pagesOf, enterPages, Recovery, recoveryWith, base, recoveredState, recover as recoverOf}
+use Rattle.recovery.specs.Recovery.{Placed, serialOf, wholes, sort, lastOf, noPage, Group, between, walk, groupsOf, pagesOf, enterPages, Recovery, recoveryWith, base}
+use Rattle.recovery.specs.Recovery.{recover as recoverOf}
 use Rattle.step.specs.Step.{Step, isLast, headAfter, appended, committed, collected, flushed, erasing, programming, appendStep, commitStep, moveStep, collectStep, flushStep, due, stepOf, mediumAfter}
 use Rattle.step.proofs.Laws.{first-cases}
 use Rattle.valve_log.specs.History.{UnderWay, committing, History, Told, unchanged, steppedPage}
 use Rattle.valve_log.specs.Reached.{World, world, withState, stepDue, CutOf, Event, called, filled, stepped, sameBytes, cutShort, recovered, happen, Reached}
-use Rattle.valve_log.specs.SinceCommit.{commitEndsNext}
 use Rattle.valve_log.proofs.Index.{sound-keep, words-keep}
 use Rattle.valve_log.proofs.Views.{one-keeps, one-lost}
 use Rattle.valve_log.proofs.Groups.{lay, lay-length}
-use Rattle.valve_log.proofs.Sound.{Sound, base-is, lost-sound}
-use Rattle.valve_log.proofs.Coupling.{Pend, at-rest, in-append, in-commit, in-collect, in-flush, alive-of, Coupled, fits}
+use Rattle.valve_log.proofs.Sound.{Sound, base-is, greatest, outcome, accepts, lost-sound}
+use Rattle.valve_log.proofs.Coupling.{Pend, at-rest, in-append, in-commit, in-collect, in-flush, alive-of, Coupled, pending-fit}
 use Rattle.valve_log.proofs.Lent.{state-fit}
 use Rattle.valve_log.proofs.Due.{Programs, Erases, Good}
 use Rattle.valve_log.proofs.Events.{Upheld, same-true, there, cut-seen, others, not-whole, block-there, erase-cut, due-good}
 use Rattle.valve_log.proofs.Point3.{reached-upheld}
-use Rattle.fading.proofs.Same.{state-found, met-where-accepted}
-use Rattle.archive.specs.Archive.{commitCounts}
-use Rattle.archive.specs.Base.{Rises, BaseTells}
+use Rattle.valve_log.specs.SinceCommit.{commitEndsNext, commitCounts}
+use Rattle.valve_log.specs.Base.{Rises, BaseTells}
 
 -- ---- the base of the state after a step
 
-stays : (c : Bool) (b b′ : ℕ) → c ≡ false → b′ ≡ b → Rises c b b′
-stays c b b′ f e = record { same = λ q. e; greater = λ q. true-false q f }
+stays : (c : Bool) (b n b′ : ℕ) → c ≡ false → b′ ≡ b → Rises c b n b′
+stays c b n b′ f e = record { same = λ q. e; greater = λ q. true-false q f; late = λ q. true-false q f }
 
-rose : (c : Bool) (b b′ : ℕ) → c ≡ true → b < b′ → Rises c b b′
-rose c b b′ t l = record { same = λ q. true-false t q; greater = λ q. l }
+rose : (c : Bool) (b n b′ : ℕ) → c ≡ true → b < b′ → n ≤ b′ + 7 → Rises c b n b′
+rose c b n b′ t l k = record { same = λ q. true-false t q; greater = λ q. l; late = λ q. k }
 
 unfoldable StepRises : Held → UnderWay → Answer Step → Type 0
 StepRises s u (refused n) = Unit {0}
-StepRises s u (gives (Step.program p pg t f)) = Rises (commitEndsNext u) (s .head .base) (t .head .base)
+StepRises s u (gives (Step.program p pg t f)) = Rises (commitEndsNext u) (s .head .base) (s .head .serial) (t .head .base)
 StepRises s u (gives (Step.erase b t f)) = t .head .base ≡ s .head .base
 
 refused-rises : (s : Held) (u : UnderWay) (n : ℕ) → StepRises s u (refused n)
 unfolding StepRises
 refused-rises s u n = tt
 
-programming-rises : (v : List View) (s : Held) (u : UnderWay) (p : ℕ) (pg : Page) (t : Held) (f : Bool) → Rises (commitEndsNext u) (s .head .base) (t .head .base)
+programming-rises : (v : List View) (s : Held) (u : UnderWay) (p : ℕ) (pg : Page) (t : Held) (f : Bool)
+    → Rises (commitEndsNext u) (s .head .base) (s .head .serial) (t .head .base)
     → StepRises s u (programming v (s .head) p pg t f)
 unfolding programming
 programming-rises v s u p pg t f R = checked-cases (StepRises s u) _ _ (refused-rises s u) (λ e. unfold StepRises in R)
@@ -95,6 +96,11 @@ one-page : (n : ℕ) → n ≡ 0 → basePages n ≡ 1
 unfolding basePages pagesFor
 one-page n e = rw e
 
+-- a base has at most 8 pages
+few-pages : (n : ℕ) → n ≤ mostValves → basePages n ≤ 8
+unfolding basePages pagesFor
+few-pages n l = omega arith
+
 -- a base's first serial is greater than that of the base before it: where its pages alone were the chain there would be no index, and no page yet
 greater : {v : List View} {log : List (List Entry)} {settings : List Setting} {b : ℕ} {ch : List Placed} {gs : List Group} {idx : List Place} → Sound v log settings b ch gs idx
     → (f k serial : ℕ) (ps : List ℕ) (pre : List Placed) → serial ≡ b + length ch → length ps ≡ k → f + k ≡ serial → ch ≡ pre ++ lay 2 idx 0 f ps
@@ -114,24 +120,26 @@ module _ (v : List View) (s : Held) {log : List (List Entry)} {settings : List S
   unfolding collectStep
   collect-rises u c [] e = unfold StepRises erasing in refl
   collect-rises u c (x ∷ xs) e =
-      unfold moveStep in checked-cases (StepRises s u) _ _ (refused-rises s u) (λ t. programming-rises v s u _ _ _ _ (stays _ _ _ e (collected-base s c _ _)))
+      unfold moveStep in checked-cases (StepRises s u) _ _ (refused-rises s u) (λ t. programming-rises v s u _ _ _ _ (stays _ _ _ _ e (collected-base s c _ _)))
 
   commit-rises : (k left : ℕ) → left + k ≡ basePages (length (s .index)) → k < basePages (length (s .index)) → b < s .head .serial - k → StepRises s (committing left) (commitStep v s k)
   unfolding commitStep
   commit-rises k left a fewer g =
+      let most = few-pages (length (s .index)) (rw indices (S .tidy .count)) in
+      let few : s .head .serial ≤ (s .head .serial - k) + 7 = omega arith in
       programming-rises v s (committing left) _ _ _ _
       (by-cases (isLast k (length (s .index)))
-      (λ z. rose _ _ _ (ends-next (length (s .index)) k left a fewer z) (rw (committed-last s k _ z, bases) g))
-      (λ z. stays _ _ _ (goes-on (length (s .index)) k left a z) (committed-more s k _ z)))
+      (λ z. rose _ _ _ _ (ends-next (length (s .index)) k left a fewer z) (rw (committed-last s k _ z, bases) g) (rw (committed-last s k _ z) few))
+      (λ z. stays _ _ _ _ (goes-on (length (s .index)) k left a z) (committed-more s k _ z)))
 
   due-rises : (small : List (List Entry)) (pend : Pending) (u : UnderWay) → Pend v (s .head .serial) ch gs idx pend u → pendingFit v (s .head) (s .index) pend ≡ true
       → StepRises s u (due v s small pend)
   unfolding due pendingFit doneFit
   due-rises small pend u at-rest q = refused-rises s u 9
   due-rises small pend u in-flush q =
-      unfold flushStep in programming-rises v s u _ _ _ _ (stays _ _ _ (unfold commitEndsNext in refl) (flushed-base s small _))
+      unfold flushStep in programming-rises v s u _ _ _ _ (stays _ _ _ _ (unfold commitEndsNext in refl) (flushed-base s small _))
   due-rises small pend u (in-append {es = es} {ps = ps} f t a c op pr) q =
-      unfold appendStep in programming-rises v s u _ _ _ _ (stays _ _ _ (unfold commitEndsNext in refl) (appended-base s es ps _))
+      unfold appendStep in programming-rises v s u _ _ _ _ (stays _ _ _ _ (unfold commitEndsNext in refl) (appended-base s es ps _))
   due-rises small pend u (in-commit {k = k} {left = left} f ps pre n a c sp op al ag) q =
       let fewer : k < basePages (length (s .index)) = ltb-true k (basePages (length (s .index))) (every-at 1 _ q) in
       commit-rises k left (rw indices a) fewer (greater S f k (s .head .serial) ps pre serials n c sp ag (rw indices at fewer))
@@ -144,7 +152,7 @@ step-rises n v s bs h c =
     checked-cases (StepRises s (h .underWay)) _ _ (refused-rises s (h .underWay))
     (λ e. let w : fitWith v s bs ≡ true = every-at 1 _ e in
     first-cases (StepRises s (h .underWay)) v s (due v s (bufferedIn bs) (s .pending)) (λ r. unfold StepRises erasing in refl)
-    (λ r. due-rises v s (c .medium) (A .serials) (A .bases) (A .indices) (bufferedIn bs) (s .pending) (h .underWay) (A .pends) (fits v s (state-fit v s bs w) .pending)))
+    (λ r. due-rises v s (c .medium) (A .serials) (A .bases) (A .indices) (bufferedIn bs) (s .pending) (h .underWay) (A .pends) (pending-fit v s (state-fit v s bs w))))
 
 -- ---- the base that recovery finds
 
@@ -152,22 +160,29 @@ step-rises n v s bs h c =
 base-held : {v : List View} {s : Held} {h : History} → Coupled v (some s) h → base v ≡ s .head .base
 base-held c = base-is (c .medium) ∙ sym (alive-of (c .memory) .bases)
 
+-- the next serial: one more than the greatest of the whole pages
+abbrev pub nextAfter : List View → ℕ
+nextAfter v = suc (serialOf (lastOf noPage (sort (wholes 0 v))))
+
+next-held : {v : List View} {s : Held} {h : History} → Coupled v (some s) h → nextAfter v ≡ s .head .serial
+next-held c = greatest (c .medium) ∙ sym (alive-of (c .memory) .serials)
+
 abbrev From : List ℕ → Bool → List ℕ → Type 0
-From m c u = Rises c (base (views m)) (base (views u))
+From m c u = Rises c (base (views m)) (nextAfter (views m)) (base (views u))
 
 kept : (m u : List ℕ) (c : Bool) → c ≡ false → u ≡ m → From m c u
-kept m u c f e = stays _ _ _ f (ap (λ (l : List ℕ). base (views l)) e)
+kept m u c f e = stays _ _ _ _ f (ap (λ (l : List ℕ). base (views l)) e)
 
 module _ (m : List ℕ) (s : Held) (bs : List ℕ) (h : History) (U : Upheld (world m (some s) bs) h) where
-  module _ (p : ℕ) (pg : Page) (s′ : Held) (P : Programs (views m) s bs h p pg s′) (R : Rises (commitEndsNext (h .underWay)) (s .head .base) (s′ .head .base)) where
+  module _ (p : ℕ) (pg : Page) (s′ : Held) (P : Programs (views m) s bs h p pg s′) (R : Rises (commitEndsNext (h .underWay)) (s .head .base) (s .head .serial) (s′ .head .base)) where
     program-rises : From m (commitEndsNext (h .underWay)) (programmed m p pg)
-    program-rises = rw (base-held (U .coupled), program-views m p pg (there m s bs h U p pg s′ P) (P .fits-in), base-held (P .after)) R
+    program-rises = rw (base-held (U .coupled), next-held (U .coupled), program-views m p pg (there m s bs h U p pg s′ P) (P .fits-in), base-held (P .after)) R
 
     -- a cut leaves the page complete, or the medium's whole pages as they were
     cut-program-rises : (left : List ℕ) → CutProgram m p pg left → (b : Bool) → sameBytes left (programmed m p pg) ≡ b → From m (commitCounts h (cond b steppedPage unchanged)) left
     unfolding commitCounts
     cut-program-rises left c true e = rw (same-true left (programmed m p pg) e) program-rises
-    cut-program-rises left c false e = stays _ _ _ refl (base-is sound ∙ sym (base-is (C .medium)))
+    cut-program-rises left c false e = stays _ _ _ _ refl (base-is sound ∙ sym (base-is (C .medium)))
       where
         C : Coupled (views m) (some s) h
         C = U .coupled
@@ -189,7 +204,7 @@ module _ (m : List ℕ) (s : Held) (bs : List ℕ) (h : History) (U : Upheld (wo
   unfolding stepped mediumAfter Good StepRises commitCounts
   stepped-rises (refused n) G R = kept m m false refl refl
   stepped-rises (gives (Step.program p pg s′ finished)) G R = program-rises p pg s′ G R
-  stepped-rises (gives (Step.erase b s′ finished)) G R = stays _ _ _ refl (erase-stays b s′ G R (erased m b) (erase-cut m s bs h U b s′ G))
+  stepped-rises (gives (Step.erase b s′ finished)) G R = stays _ _ _ _ refl (erase-stays b s′ G R (erased m b) (erase-cut m s bs h U b s′ G))
 
   cut-rises : (st : Answer Step) → Good (views m) s bs h st → StepRises s (h .underWay) st → (left : List ℕ) → CutOf m st left
       → From m (commitCounts h (cutShort (world m (some s) bs) left st .told)) (cutShort (world m (some s) bs) left st .after .medium)
@@ -197,7 +212,7 @@ module _ (m : List ℕ) (s : Held) (bs : List ℕ) (h : History) (U : Upheld (wo
   cut-rises (refused n) G R left c = absurd c
   cut-rises (gives (Step.program p pg s′ finished)) G R left c = cut-program-rises p pg s′ G R left c (sameBytes left (programmed m p pg)) refl
   cut-rises (gives (Step.erase b s′ finished)) G R left c =
-      unfold commitCounts in stays _ _ _ refl (erase-stays b s′ G R left (cut-erase-views m b left (block-there m s bs h U b s′ G) (U .guarded) c))
+      unfold commitCounts in stays _ _ _ _ refl (erase-stays b s′ G R left (cut-erase-views m b left (block-there m s bs h U b s′ G) (U .guarded) c))
 
 -- a call, and a recovery, touches no page
 called-rises : (w : World) (h : History) (t : Told) (c : Answer Held) → commitCounts h t ≡ false → From (w .medium) (commitCounts h (called w t c .told)) (called w t c .after .medium)
@@ -237,17 +252,31 @@ happen-rises m none bs h (Event.cutInside left c) U = absurd (unfold CutOf in c)
 happen-rises m (some s) bs h (Event.cutInside left c) U =
     cut-rises m s bs h U (stepOf (length m) (views m) s bs) (due-good m s bs h U) (step-rises (length m) (views m) s bs h (U .coupled)) left c
 
--- the base of the state that recovery gives
-base-of : (v : List View) → recoveredState v .head .base ≡ base v
-unfolding recoveredState
-base-of v = refl
-
-pub base-found : (n : ℕ) (v : List View) (log : List (List Entry)) (s : Held) → recoverOf n v ≡ gives (recoveryWith log s) → s .head .base ≡ base v
-base-found n v log s r = ap (λ (h : Held). h .head .base) (sym (state-found n v log s (met-where-accepted n v log s r) r)) ∙ base-of v
-
-pub base-rises : (w : World) (h : History) → Reached w h → (e : Event w) → Rises (commitCounts h (happen w e .told)) (base (views (w .medium))) (base (views (happen w e .after .medium)))
+pub base-rises : (w : World) (h : History) → Reached w h → (e : Event w) → From (w .medium) (commitCounts h (happen w e .told)) (happen w e .after .medium)
 base-rises w h r e = happen-rises (w .medium) (w .state) (w .buffer) h e (reached-upheld w h r)
+
+-- the head of the state that recovery gives
+record HeadFound (v : List View) (s : Held) : Type 0 where
+  pub bases : s .head .base ≡ base v
+  pub serials : s .head .serial ≡ nextAfter v
+
+outcome-head : {v : List View} {log : List (List Entry)} {settings : List Setting} {b : ℕ} {ch : List Placed} {gs : List Group} {idx : List Place} (S : Sound v log settings b ch gs idx)
+    → HeadFound v (outcome S)
+unfolding outcome
+outcome-head S = record { bases = sym (base-is S); serials = sym (greatest S) }
+
+head-found : (w : World) (h : History) → Reached w h → (log : List (List Entry)) (s : Held)
+    → recoverOf (length (w .medium)) (views (w .medium)) ≡ gives (recoveryWith log s) → HeadFound (views (w .medium)) s
+head-found w h r log s a =
+    let U = reached-upheld w h r in
+    let M = U .coupled .medium in
+    let g : recoveryWith (h .log) (outcome M) ≡ recoveryWith log s = same-given (sym (accepts M (length (w .medium)) (U .size)) ∙ a) in
+    let e : outcome M ≡ s = ap (λ (x : Recovery). x .state) g in
+    subst (HeadFound (views (w .medium))) e (outcome-head M)
 
 pub base-tells : BaseTells
 unfolding BaseTells
-base-tells w h r e log log′ s s′ a b = rw (base-found _ _ log s a, base-found _ _ log′ s′ b) (base-rises w h r e)
+base-tells w h r e log log′ s s′ a b =
+    let F = head-found w h r log s a in
+    let G = head-found (happen w e .after) _ (Reached.next w h e r) log′ s′ b in
+    rw (F .bases, F .serials, G .bases) (base-rises w h r e)
