@@ -41,9 +41,6 @@ use Rattle.valve_log.specs.Base.{Rises, BaseTells}
 stays : (c : Bool) (b n b′ : ℕ) → c ≡ false → b′ ≡ b → Rises c b n b′
 stays c b n b′ f e = record { same = λ q. e; greater = λ q. true-false q f; late = λ q. true-false q f }
 
-rose : (c : Bool) (b n b′ : ℕ) → c ≡ true → b < b′ → n ≤ b′ + 7 → Rises c b n b′
-rose c b n b′ t l k = record { same = λ q. true-false t q; greater = λ q. l; late = λ q. k }
-
 unfoldable StepRises : Held → UnderWay → Answer Step → Type 0
 StepRises s u (refused n) = Unit {0}
 StepRises s u (gives (Step.program p pg t f)) = Rises (commitEndsNext u) (s .head .base) (s .head .serial) (t .head .base)
@@ -126,10 +123,14 @@ module _ (v : List View) (s : Held) {log : List (List Entry)} {settings : List S
   unfolding commitStep
   commit-rises k left a fewer g =
       let most = few-pages (length (s .index)) (rw indices (S .tidy .count)) in
-      let few : s .head .serial ≤ (s .head .serial - k) + 7 = omega arith in
       programming-rises v s (committing left) _ _ _ _
       (by-cases (isLast k (length (s .index)))
-      (λ z. rose _ _ _ _ (ends-next (length (s .index)) k left a fewer z) (rw (committed-last s k _ z, bases) g) (rw (committed-last s k _ z) few))
+      (λ z.
+      record {
+        same = λ q. true-false (ends-next (length (s .index)) k left a fewer z) q;
+        greater = λ q. rw (committed-last s k _ z, bases) g;
+        late = λ q. rw (committed-last s k _ z) (omega (arith, most, fewer));
+      })
       (λ z. stays _ _ _ _ (goes-on (length (s .index)) k left a z) (committed-more s k _ z)))
 
   due-rises : (small : List (List Entry)) (pend : Pending) (u : UnderWay) → Pend v (s .head .serial) ch gs idx pend u → pendingFit v (s .head) (s .index) pend ≡ true
