@@ -104,7 +104,9 @@ enum {
     X(22, VJ_REFUSED_TOUCHED, "more than 192 valves are touched in the span") \
     X(23, VJ_REFUSED_BUFFER_FULL, "a group has more entries than the buffer has places left") \
     X(24, VJ_REFUSED_BUFFER_HOLDS, "the buffer holds a group where an append, a commit or a collection is begun") \
-    X(25, VJ_REFUSED_SHORT_GROUPS, "the lent list is too short for all groups that mattered")
+    X(25, VJ_REFUSED_SHORT_GROUPS, "the lent list is too short for all groups that mattered") \
+    X(28, VJ_REFUSED_EARLIER, "the medium shows an earlier moment than the mark filed last: it has faded or was formatted, or is another one") \
+    X(29, VJ_REFUSED_OTHER, "the mark filed last is not of this medium, or the medium was formatted since")
 
 /* Their names, and VJ_ACCEPTED for no refusal. */
 #define VJ_REFUSAL_NAME(number, name, text) , name = number
@@ -137,6 +139,7 @@ enum {
     VJ_STACK_LOG = 68608,
     VJ_STACK_READER = 68608,
     VJ_STACK_CHANGE = 1024,
+    VJ_STACK_NEWS = 68608,
     VJ_STACK_EFFECT = 107520,
     VJ_STACK_MATTERED = 173056,
     VJ_STACK_PAGE = 1024,
@@ -225,6 +228,15 @@ typedef struct VjChange {
     uint64_t word;  /* the word */
     VjPlace next;   /* the place after the change; for no more, the place that was asked */
 } VjChange;
+
+/* What vj_news answers: base, serial and count are the mark of this reading, to be filed with it. On a refusal all but the number is 0. */
+typedef struct VjNews {
+    uint8_t number;  /* 0, or the number of the refusal */
+    size_t first;    /* the first change of the log that is new, counted from 0; equal to count where nothing is new */
+    uint64_t base;   /* the base's first serial, */
+    uint64_t serial; /* the next serial, */
+    size_t count;    /* and how many changes the log has */
+} VjNews;
 
 /* What vj_effect answers. */
 typedef struct VjEffect {
@@ -332,6 +344,12 @@ VjPlace vj_reader(const uint8_t *medium, size_t medium_length);
  * it is asked. The medium is lent as it was to vj_reader: a place means nothing once a step was made. A place of any content is answered, one that
  * the library did not give with any change of the medium's pages or none. Never refuses. */
 VjChange vj_change(const uint8_t *medium, size_t medium_length, VjPlace place);
+
+/* From which change on the log is new to an archive: base, serial and count are the mark that it filed last, as vj_news gave it then, or zeros where
+ * nothing was filed since the medium was formatted. The changes that vj_log gives from number `first` on are those that were not filed. Every mark is
+ * answered. Refuses 1 to 6; 28 where the next serial is smaller than the filed one, so that the medium shows an earlier moment or is another one; and 29
+ * where it is not, but base and count cannot come after those filed. A medium that was formatted, and had the same changes made again, cannot be told. */
+VjNews vj_news(const uint8_t *medium, size_t medium_length, uint64_t base, uint64_t serial, size_t count);
 
 /* What a span of the log did: for each valve that the groups from number `first` up to, not including, number `second` touch, ascending, its
  * last word, or its removal with the key valve + VJ_REMOVAL and word 0. Groups are numbered as vj_log numbers them; equal ends are an empty
@@ -471,6 +489,8 @@ VJ_SIZE(VjCount, 16) VJ_FIELD(VjCount, number, 0, 1) VJ_FIELD(VjCount, count, 8,
 VJ_SIZE(VjPlace, 8) VJ_FIELD(VjPlace, number, 0, 1) VJ_FIELD(VjPlace, entry, 1, 1) VJ_FIELD(VjPlace, page, 2, 2) VJ_FIELD(VjPlace, group, 4, 4)
 VJ_SIZE(VjChange, 24) VJ_FIELD(VjChange, found, 0, 1) VJ_FIELD(VjChange, key, 2, 2) VJ_FIELD(VjChange, group, 4, 4)
     VJ_FIELD(VjChange, word, 8, 8) VJ_FIELD(VjChange, next, 16, 8)
+VJ_SIZE(VjNews, 40) VJ_FIELD(VjNews, number, 0, 1) VJ_FIELD(VjNews, first, 8, 8) VJ_FIELD(VjNews, base, 16, 8)
+    VJ_FIELD(VjNews, serial, 24, 8) VJ_FIELD(VjNews, count, 32, 8)
 VJ_SIZE(VjEffect, 1936) VJ_FIELD(VjEffect, number, 0, 1) VJ_FIELD(VjEffect, cells, 8, 1928)
 VJ_SIZE(VjPart, 16) VJ_FIELD(VjPart, offset, 0, 8) VJ_FIELD(VjPart, length, 8, 8)
 VJ_SIZE(VjWord, 16) VJ_FIELD(VjWord, number, 0, 1) VJ_FIELD(VjWord, word, 8, 8)

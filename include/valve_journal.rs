@@ -98,6 +98,8 @@ refusals! {
     23 BufferFull "a group has more entries than the buffer has places left",
     24 BufferHolds "the buffer holds a group where an append, a commit or a collection is begun",
     25 ShortGroups "the lent list is too short for all groups that mattered",
+    28 Earlier "the medium shows an earlier moment than the mark filed last: it has faded or was formatted, or is another one",
+    29 Other "the mark filed last is not of this medium, or the medium was formatted since",
 }
 
 impl fmt::Display for Refusal {
@@ -283,6 +285,28 @@ pub fn reader(medium: &[u8]) -> Result<Place, Refusal> {
 pub fn change(medium: &[u8], place: Place) -> Option<(Change, Place)> {
     let r = unsafe { vj_change(medium.as_ptr(), medium.len(), place) };
     (r.found == 1).then_some((Change { key: r.key, word: r.word, group: r.group }, r.next))
+}
+
+/// What an archive files beside log and settings: the base's first serial, the next serial and how many changes the log has. Zeros, the default, where
+/// nothing was filed since the medium was formatted.
+#[derive(Clone, Copy, PartialEq, Eq, Debug, Default)]
+pub struct Mark {
+    pub base: u64,
+    pub serial: u64,
+    pub count: usize,
+}
+
+/// What is new in a log to an archive: the first change that it has not filed, counted from 0, and the mark of this reading, to be filed with it.
+#[derive(Clone, Copy, PartialEq, Eq, Debug)]
+pub struct News {
+    pub first: usize,
+    pub mark: Mark,
+}
+
+/// From which change on the log is new to an archive that filed this mark last. A medium that shows an earlier moment, or is another one, is refused.
+pub fn news(medium: &[u8], filed: Mark) -> Result<News, Refusal> {
+    let r = unsafe { vj_news(medium.as_ptr(), medium.len(), filed.base, filed.serial, filed.count) };
+    answer(r.number, News { first: r.first, mark: Mark { base: r.base, serial: r.serial, count: r.count } })
 }
 
 /// What the groups of the log from number `first` up to, not including, number `second` did: for each valve touched, ascending, its last word or its
@@ -473,6 +497,15 @@ struct VjChange {
 }
 
 #[repr(C)]
+struct VjNews {
+    number: u8,
+    first: usize,
+    base: u64,
+    serial: u64,
+    count: usize,
+}
+
+#[repr(C)]
 struct VjPart {
     offset: usize,
     length: usize,
@@ -550,7 +583,7 @@ struct VjStepped {
 const _: () = assert!(size_of::<Cells>() == 1928 && size_of::<Head>() == 40 && size_of::<State>() == 4176 && size_of::<Record>() == 16);
 const _: () = assert!(size_of::<VjRecovered>() == 4184 && size_of::<VjCount>() == 16 && size_of::<VjPart>() == 16 && size_of::<VjWord>() == 16);
 const _: () = assert!(size_of::<VjWordPlace>() == 24 && size_of::<VjPick>() == 16 && size_of::<VjSurvey>() == 1538 && size_of::<VjPages>() == 16);
-const _: () = assert!(size_of::<Place>() == 8 && size_of::<VjChange>() == 24);
+const _: () = assert!(size_of::<Place>() == 8 && size_of::<VjChange>() == 24 && size_of::<VjNews>() == 40);
 const _: () = assert!(size_of::<VjWanted>() == 1936 && size_of::<VjEffect>() == 1936 && size_of::<VjNext>() == 16 && size_of::<VjBegun>() == 4184 && size_of::<VjStepped>() == 4192);
 
 // The library's calls. A pointer and the length after it are those of one slice, and what a call writes to is lent to it alone; then each call is
@@ -562,6 +595,7 @@ extern "C" {
     fn vj_log(m: *const u8, ml: usize, keys: *mut u16, kl: usize, words: *mut u64, wl: usize, groups: *mut u32, gl: usize) -> VjCount;
     fn vj_reader(m: *const u8, ml: usize) -> Place;
     fn vj_change(m: *const u8, ml: usize, place: Place) -> VjChange;
+    fn vj_news(m: *const u8, ml: usize, base: u64, serial: u64, count: usize) -> VjNews;
     fn vj_effect(m: *const u8, ml: usize, first: u32, second: u32) -> VjEffect;
     fn vj_mattered(m: *const u8, ml: usize, groups: *mut u32, gl: usize) -> VjCount;
     fn vj_page(m: *const u8, ml: usize, p: usize) -> VjPart;

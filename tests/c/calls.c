@@ -45,6 +45,7 @@ MAKE(VjRecovered, recover, MEDIUM)
 MAKE(VjCount, log, MEDIUM, GROUP, lent->groups, lent->count)
 MAKE(VjPlace, reader, MEDIUM)
 MAKE(VjChange, change, MEDIUM, (VjPlace){0, 0, (uint16_t)lent->number, 0})
+MAKE(VjNews, news, MEDIUM, 0, 0, 0)
 MAKE(VjEffect, effect, MEDIUM, 0, (uint32_t)lent->number)
 MAKE(VjCount, mattered, MEDIUM, lent->groups, lent->count)
 MAKE(VjPart, page, MEDIUM, lent->number)
@@ -69,6 +70,7 @@ const Call test_calls[] = {
     {"vj_log", VJ_STACK_LOG, make_log},
     {"vj_reader", VJ_STACK_READER, make_reader},
     {"vj_change", VJ_STACK_CHANGE, make_change},
+    {"vj_news", VJ_STACK_NEWS, make_news},
     {"vj_effect", VJ_STACK_EFFECT, make_effect},
     {"vj_mattered", VJ_STACK_MATTERED, make_mattered},
     {"vj_page", VJ_STACK_PAGE, make_page},

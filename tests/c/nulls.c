@@ -28,6 +28,7 @@ unsigned test_nulls(uint8_t *medium, size_t length, const VjState *state, uint8_
         refused.number == VJ_REFUSED_LENGTH,
         no_more_at(vj_change(NONE, start), start),
         no_more_at(vj_change(medium, length, refused), refused),
+        vj_news(NONE, 0, 0, 0).number == VJ_REFUSED_LENGTH,
         vj_effect(NONE, 0, 0).number == VJ_REFUSED_LENGTH,
         vj_mattered(NONE, NONE).number == VJ_REFUSED_LENGTH,
         vj_mattered(medium, length, NONE).number == VJ_ACCEPTED,

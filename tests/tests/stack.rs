@@ -62,8 +62,8 @@ impl Table {
         *deepest = taken.max(*deepest);
     }
 
-    /// Recovery and the log of a medium, whole and change by change, the whole log's
-    /// effect, and the groups that mattered.
+    /// Recovery and the log of a medium, whole and change by change, what is new in
+    /// it, the whole log's effect, and the groups that mattered.
     fn recovery(&mut self, medium: &[u8]) {
         let mut desk = Desk::new(medium, &Proved::of(&State::at_format(256)), 0);
         let most = reader::most_changes(medium);
@@ -71,6 +71,7 @@ impl Table {
         self.note("vj_recover", &desk, 0);
         self.note("vj_log", &desk, 0);
         self.note("vj_reader", &desk, 0);
+        self.note("vj_news", &desk, 0);
         self.note("vj_mattered", &desk, 0);
         // From the first page, one in the middle and the last.
         for page in [0, 2048, 4095] {

@@ -1,4 +1,4 @@
--- What a faded medium shows was made, in that order: a history's log is the last of the groups made, and its settings are what all of them lead to.
+-- What a faded medium shows was made, in that order: it is what the history of a moment shows, whose log is the last of the groups made by then.
 use mathlib.Core.Path.{_≡_, refl, sym, ap, ap₂, subst, _∙_}
 use mathlib.Core.Logic.{_⊎_, inl, inr}
 use mathlib.Core.Option.{some}
@@ -12,87 +12,15 @@ use Rattle.page.specs.Pages.{View, changesOf}
 use Rattle.flash.specs.Medium.{views}
 use Rattle.index.specs.Index.{put, remove, assign, assignAll}
 use Rattle.nodes.specs.Nodes.{wordAt}
-use Rattle.valve_log.specs.History.{UnderWay, nothing, appending, committing, collecting, flushing, History, start as noHistory, Told, unchanged}
-use Rattle.valve_log.specs.History.{beganAppend, beganCommit, beganCollect, putIn, beganFlush, steppedPage, steppedBlock, recovery, assignGroups, counted, tell}
+use Rattle.valve_log.specs.History.{History, assignGroups}
 use Rattle.valve_log.specs.Reached.{World, happen, happened, Before, switchedOff, Reached, Words}
+use Rattle.valve_log.specs.Made.{groupsCounting, groupsMadeBefore, groupsMade, Tallied, MadeTallies}
+use Rattle.valve_log.proofs.Made.{made-tallies}
 use Rattle.fading.specs.Fading.{AtOrBefore, now, earlier, older, NoMixture}
-use Rattle.fading.specs.Made.{groupsFinished, groupsCounting, groupsMadeBefore, groupsMade, ShownAsMade, OrderOccurred, StandsIn, first, later, ChangeMade, NoChangeInvented}
+use Rattle.fading.specs.Made.{ShownAsMade, OrderOccurred, StandsIn, first, later, ChangeMade, NoChangeInvented}
 use Rattle.fading.proofs.Fading.{no-mixture}
 
--- ---- a history beside the groups made
-
-pub record Tallied (made : List (List Entry)) (h : History) : Type 0 where
-  pub before : List (List Entry)
-  pub ends : made ≡ before ++ h .log
-  pub sets : assignGroups [] made ≡ h .settings
-
-groups-append : (s : List Setting) (a b : List (List Entry)) → assignGroups s (a ++ b) ≡ assignGroups (assignGroups s a) b
-unfolding assignGroups
-groups-append s [] b = refl
-groups-append s (g ∷ a) b = groups-append (assignAll s g) a b
-
-module _ (made : List (List Entry)) (h : History) (T : Tallied made h) (h′ : History) where
-  -- groups count
-  joined : (new : List (List Entry)) → h′ .log ≡ h .log ++ new → h′ .settings ≡ assignGroups (h .settings) new → Tallied (made ++ new) h′
-  joined new l s =
-      record {
-        before = T .before;
-        ends = ap (λ (x : List (List Entry)). x ++ new) (T .ends) ∙ append-assoc (T .before) (h .log) new ∙ ap (_++_ (T .before)) (sym l);
-        sets = groups-append [] made new ∙ ap (λ (x : List Setting). assignGroups x new) (T .sets) ∙ sym s;
-      }
-
-  none-new : h′ .settings ≡ h .settings → assignGroups [] (made ++ []) ≡ h′ .settings
-  none-new s = ap (assignGroups []) (append-nil made) ∙ T .sets ∙ sym s
-
-  same : h′ .log ≡ h .log → h′ .settings ≡ h .settings → Tallied (made ++ []) h′
-  same l s = record { before = T .before; ends = append-nil made ∙ T .ends ∙ ap (_++_ (T .before)) (sym l); sets = none-new s }
-
-  -- a commit counts
-  emptied : h′ .log ≡ [] → h′ .settings ≡ h .settings → Tallied (made ++ []) h′
-  emptied l s = record { before = made; ends = ap (_++_ made) (sym l); sets = none-new s }
-
-module _ (made : List (List Entry)) (h : History) (T : Tallied made h) where
-  counted-tallied : (u : UnderWay) → Tallied (made ++ groupsFinished u) (counted h u)
-  unfolding counted groupsFinished
-  counted-tallied nothing = same made h T h refl refl
-  counted-tallied (appending es zero) = same made h T h refl refl
-  counted-tallied (appending es (suc zero)) = joined made h T _ (es ∷ []) refl (unfold assignGroups in refl)
-  counted-tallied (appending es (suc (suc n))) = same made h T _ refl refl
-  counted-tallied (committing zero) = same made h T h refl refl
-  counted-tallied (committing (suc zero)) = emptied made h T _ refl refl
-  counted-tallied (committing (suc (suc n))) = same made h T _ refl refl
-  counted-tallied collecting = same made h T h refl refl
-  counted-tallied (flushing gs zero) = same made h T h refl refl
-  counted-tallied (flushing gs (suc zero)) = joined made h T _ gs refl refl
-  counted-tallied (flushing gs (suc (suc n))) = same made h T _ refl refl
-
-  pub tell-tallied : (t : Told) → Tallied (made ++ groupsCounting h t) (tell h t)
-  unfolding tell groupsCounting
-  tell-tallied unchanged = same made h T h refl refl
-  tell-tallied (beganAppend es) = same made h T _ refl refl
-  tell-tallied beganCommit = same made h T _ refl refl
-  tell-tallied beganCollect = same made h T _ refl refl
-  tell-tallied (putIn es) = same made h T _ refl refl
-  tell-tallied beganFlush = same made h T _ refl refl
-  tell-tallied steppedPage = counted-tallied (h .underWay)
-  tell-tallied steppedBlock = same made h T h refl refl
-  tell-tallied recovery = same made h T _ refl refl
-
--- where the list starts there is none of either
-pub start-tallied : Tallied [] noHistory
-unfolding assignGroups
-start-tallied = record { before = []; ends = refl; sets = refl }
-
-pub before-tallied : (w : World) (h : History) (b : Before w h) → Tallied (groupsMadeBefore b) h
-unfolding groupsMadeBefore
-before-tallied w h (Before.start v F e) = start-tallied
-before-tallied w h (Before.next v g e b) = tell-tallied (groupsMadeBefore b) g (before-tallied v g b) (happened v e .told)
-
-reached-tallied : (w : World) (h : History) (r : Reached w h) → Tallied (groupsMade r) h
-unfolding groupsMade
-reached-tallied w h (Reached.start v F e) = start-tallied
-reached-tallied w h (Reached.next v g e r) = tell-tallied (groupsMade r) g (reached-tallied v g r) (happen v e .told)
-reached-tallied w h (Reached.takenOver {w = v} {h = g} b) = before-tallied v g b
+-- ---- the moments of a list, beside what was made
 
 -- what was made up to a moment is the first part of what was made since
 pub record MadeSince (then made : List (List Entry)) : Type 0 where
@@ -105,7 +33,7 @@ none-since made = record { after = []; is = sym (append-nil made) }
 pub more-since : {then made : List (List Entry)} (new : List (List Entry)) → MadeSince then made → MadeSince then (made ++ new)
 more-since {then} new S = record { after = S .after ++ new; is = ap (λ (x : List (List Entry)). x ++ new) (S .is) ∙ append-assoc then (S .after) new }
 
-made-since : {v : World} {g : History} (q : Reached v g) (w : World) (h : History) (r : Reached w h) → AtOrBefore q w h r → MadeSince (groupsMade q) (groupsMade r)
+pub made-since : {v : World} {g : History} (q : Reached v g) (w : World) (h : History) (r : Reached w h) → AtOrBefore q w h r → MadeSince (groupsMade q) (groupsMade r)
 unfolding groupsMade groupsMadeBefore
 made-since q w h r now = none-since (groupsMade q)
 made-since q w h r (earlier {w = w′} {h = h′} {r = r′} e p) = more-since (groupsCounting h′ (happen w′ e .told)) (made-since q w′ h′ r′ p)
@@ -121,11 +49,11 @@ module _ {then made : List (List Entry)} {g : History} (T : Tallied then g) (S :
   settings-then = sym (T .sets) ∙ ap (assignGroups []) (T .ends)
 
 pub order-occurred : OrderOccurred
-unfolding OrderOccurred NoMixture
+unfolding OrderOccurred NoMixture MadeTallies
 order-occurred w h r m f log s a =
     let M = no-mixture w h r m f log s a in
     let t = M .moment in
-    let T = reached-tallied (t .world) (t .history) (t .reached) in
+    let T = made-tallies (t .world) (t .history) (t .reached) in
     let S = made-since (t .reached) w h r (t .passed) in
     record {
       before = T .before;

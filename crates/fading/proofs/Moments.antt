@@ -2,7 +2,7 @@
 -- So a list has passed a moment at which the next serial was any given number up to today's, and the pages below it stand since then.
 use mathlib.Core.Path.{_≡_, refl, sym, ap, _∙_}
 use mathlib.Core.Logic.{_⊎_, inl, inr}
-use mathlib.Core.Bool.{true}
+use mathlib.Core.Bool.{Bool, true, false, cond}
 use mathlib.Core.Option.{Option, none, some}
 use mathlib.Core.List.{List, _∷_}
 use Prim.Native.Nat.{ℕ, zero, suc, _+_, _*_, _≤_, _<_}
@@ -10,6 +10,7 @@ use native.Mathlib.Omega.{arith}
 use native.Mathlib.Decide.{decLt, ℕ-discrete}
 use lib.ListN.{length, set, replicate}
 use Rattle.lists.specs.Needs.{Answer, refused, gives}
+use Rattle.lists.proofs.Laws.{true-false}
 use Rattle.page.specs.Pages.{Page, View, clean, whole}
 use Rattle.page.proofs.Berger.{Turned, kept, torn, blanked}
 use Rattle.flash.specs.Medium.{views, seen, programmed, erased}
@@ -20,13 +21,13 @@ use Rattle.flash.proofs.Cuts.{CutViews, cut-program-views, cut-erase-views}
 use Rattle.state.specs.State.{Held, bufferedIn}
 use Rattle.recovery.specs.Recovery.{Recovery}
 use Rattle.step.specs.Step.{Step, stepOf, mediumAfter}
-use Rattle.valve_log.specs.History.{History, Told}
-use Rattle.valve_log.specs.Reached.{World, world, withState, stepDue, CutOf, Event, called, filled, stepped, cutShort, recovered, happen, finishes, Formatting}
-use Rattle.valve_log.specs.Reached.{stepDueBefore, Earlier, happened, Before, switchedOff, Reached}
+use Rattle.valve_log.specs.History.{History, Told, unchanged, beganAppend, beganCommit, beganCollect, putIn, beganFlush, steppedPage, steppedBlock, recovery}
+use Rattle.valve_log.specs.Reached.{World, world, withState, stepDue, CutOf, Event, called, filled, stepped, sameBytes, cutShort, recovered, happen, finishes}
+use Rattle.valve_log.specs.Reached.{Formatting, stepDueBefore, Earlier, happened, Before, switchedOff, Reached}
 use Rattle.valve_log.specs.ValveZero.{stepBefore}
 use Rattle.valve_log.proofs.Views.{clean-is}
 use Rattle.valve_log.proofs.Due.{Programs, Erases, Good}
-use Rattle.valve_log.proofs.Events.{Upheld, there, others, erase-cut, due-good}
+use Rattle.valve_log.proofs.Events.{Upheld, same-true, there, others, erase-cut, due-good}
 use Rattle.valve_log.proofs.Formats.{in-format, starts, basePage}
 use Rattle.valve_log.proofs.ValveZero.{due-before, before-upheld}
 use Rattle.valve_log.proofs.Point3.{reached-upheld}
@@ -200,6 +201,85 @@ happened-change m (some s) bs h (Earlier.cutInside left c) U =
 
 pub changed-before : (w : World) (h : History) (e : Earlier w) → Before w h → PageChange (w .medium) (happened w e .after .medium)
 changed-before w h e b = happened-change (w .medium) (w .state) (w .buffer) h e (before-upheld w h b)
+
+-- ---- the next serial
+
+-- a step on a page was told
+unfoldable pub pageTold : Told → Bool
+pageTold unchanged = false
+pageTold (beganAppend es) = false
+pageTold beganCommit = false
+pageTold beganCollect = false
+pageTold (putIn es) = false
+pageTold beganFlush = false
+pageTold steppedPage = true
+pageTold steppedBlock = false
+pageTold recovery = false
+
+-- then it has risen: the page has the serial that was the next
+abbrev Risen : List ℕ → Told → List ℕ → Type 0
+Risen m t u = pageTold t ≡ true → nextSerial (views m) < nextSerial (views u)
+
+module _ (m : List ℕ) (s : Held) (bs : List ℕ) (h : History) (U : Upheld (world m (some s) bs) h) where
+  program-risen : (p : ℕ) (pg : Page) (s′ : Held) → Programs (views m) s bs h p pg s′ → nextSerial (views m) < nextSerial (views (programmed m p pg))
+  program-risen p pg s′ P =
+      let i : seen (views (programmed m p pg)) p ≡ whole pg =
+      rw (program-views m p pg (in-medium m s bs h U p pg s′ P) (P .fits-in)) (seen-set (views m) p (whole pg) (clean-in (views m) p (P .cleans))) in
+      omega (arith, next-serial m s bs h U p pg s′ P, below-next (views (programmed m p pg)) p pg i)
+
+  step-risen : (st : Answer Step) → Good (views m) s bs h st → Risen m (stepped (world m (some s) bs) st .told) (stepped (world m (some s) bs) st .after .medium)
+  unfolding stepped mediumAfter Good pageTold
+  step-risen (refused n) G = λ e. true-false e refl
+  step-risen (gives (Step.program p pg s′ finished)) G = λ e. program-risen p pg s′ G
+  step-risen (gives (Step.erase b s′ finished)) G = λ e. true-false e refl
+
+  cut-program-risen : (p : ℕ) (pg : Page) (s′ : Held) → Programs (views m) s bs h p pg s′ → (left : List ℕ) (b : Bool) → sameBytes left (programmed m p pg) ≡ b
+      → Risen m (cond b steppedPage unchanged) left
+  unfolding pageTold
+  cut-program-risen p pg s′ P left true q e = rw (same-true left (programmed m p pg) q) (program-risen p pg s′ P)
+  cut-program-risen p pg s′ P left false q e = true-false e refl
+
+  cut-risen : (st : Answer Step) → Good (views m) s bs h st → (left : List ℕ) → Risen m (cutShort (world m (some s) bs) left st .told) (cutShort (world m (some s) bs) left st .after .medium)
+  unfolding cutShort Good
+  cut-risen (refused n) G left = unfold pageTold in (λ e. true-false e refl)
+  cut-risen (gives (Step.program p pg s′ finished)) G left = cut-program-risen p pg s′ G left (sameBytes left (programmed m p pg)) refl
+  cut-risen (gives (Step.erase b s′ finished)) G left = unfold pageTold in (λ e. true-false e refl)
+
+called-risen : (w : World) (t : Told) (c : Answer Held) → pageTold t ≡ false → Risen (w .medium) (called w t c .told) (called w t c .after .medium)
+unfolding called pageTold
+called-risen w t (refused n) f = λ e. true-false e refl
+called-risen w t (gives s) f = λ e. true-false e f
+
+filled-risen : (w : World) (t : Told) (c : Answer (List ℕ)) → pageTold t ≡ false → Risen (w .medium) (filled w t c .told) (filled w t c .after .medium)
+unfolding filled pageTold
+filled-risen w t (refused n) f = λ e. true-false e refl
+filled-risen w t (gives b) f = λ e. true-false e f
+
+recovered-risen : (w : World) (r : Answer Recovery) → Risen (w .medium) (recovered w r .told) (recovered w r .after .medium)
+unfolding recovered pageTold
+recovered-risen w (refused n) = λ e. true-false e refl
+recovered-risen w (gives r) = λ e. true-false e refl
+
+pub happen-risen : (m : List ℕ) (s : Option Held) (bs : List ℕ) (h : History) (e : Event (world m s bs)) → Upheld (world m s bs) h
+    → Risen m (happen (world m s bs) e .told) (happen (world m s bs) e .after .medium)
+unfolding happen withState stepDue pageTold
+happen-risen m none bs h (Event.append ks ws a b) U = λ e. true-false e refl
+happen-risen m (some s) bs h (Event.append ks ws a b) U = called-risen (world m (some s) bs) _ _ refl
+happen-risen m none bs h Event.commit U = λ e. true-false e refl
+happen-risen m (some s) bs h Event.commit U = called-risen (world m (some s) bs) _ _ refl
+happen-risen m none bs h (Event.collect b) U = λ e. true-false e refl
+happen-risen m (some s) bs h (Event.collect b) U = called-risen (world m (some s) bs) _ _ refl
+happen-risen m none bs h (Event.buffer ks ws a b) U = λ e. true-false e refl
+happen-risen m (some s) bs h (Event.buffer ks ws a b) U = filled-risen (world m (some s) bs) _ _ refl
+happen-risen m none bs h Event.flush U = λ e. true-false e refl
+happen-risen m (some s) bs h Event.flush U = called-risen (world m (some s) bs) _ _ refl
+happen-risen m none bs h Event.step U = unfold stepped in (λ e. true-false e refl)
+happen-risen m (some s) bs h Event.step U = step-risen m s bs h U (stepOf (length m) (views m) s bs) (due-good m s bs h U)
+happen-risen m s bs h Event.recover U = recovered-risen (world m s bs) _
+happen-risen m s bs h Event.read U = λ e. true-false e refl
+happen-risen m s bs h Event.cut U = λ e. true-false e refl
+happen-risen m none bs h (Event.cutInside left c) U = absurd (unfold CutOf in c)
+happen-risen m (some s) bs h (Event.cutInside left c) U = cut-risen m s bs h U (stepOf (length m) (views m) s bs) (due-good m s bs h U) left
 
 -- the next serial rises by at most one
 pub rise : (m u : List ℕ) → PageChange m u → nextSerial (views u) ≤ suc (nextSerial (views m))

@@ -82,6 +82,14 @@ index-is : (v : List View) → valueOr [] (replayed v) ≡ recoveredState v .ind
 unfolding recoveredState
 index-is v = refl
 
+-- and its base's first serial
+base-of : (v : List View) → recoveredState v .head .base ≡ base v
+unfolding recoveredState
+base-of v = refl
+
+pub base-found : (n : ℕ) (v : List View) (log : List (List Entry)) (s : Held) → recover n v ≡ gives (recoveryWith log s) → s .head .base ≡ base v
+base-found n v log s r = ap (λ (h : Held). h .head .base) (sym (state-found n v log s (met-where-accepted n v log s r) r)) ∙ base-of v
+
 -- its index is sound
 pub index-sound : (n : ℕ) (v : List View) (log : List (List Entry)) (s : Held) → every (tests (recoverNeeds n v)) ≡ true → recover n v ≡ gives (recoveryWith log s) → sound v (s .index) ≡ true
 index-sound n v log s e r = rw (index-is v ∙ ap (λ (h : Held). h .index) (state-found n v log s e r)) at (accepted n v e .sounds)

@@ -3,7 +3,7 @@
 use mathlib.Core.Path.{_≡_}
 use mathlib.Core.Option.{some}
 use mathlib.Core.List.{List, [], _∷_, _++_}
-use Prim.Native.Nat.{ℕ, zero, suc}
+use Prim.Native.Nat.{ℕ}
 use lib.ListN.{length}
 use Rattle.lists.specs.Needs.{gives}
 use Rattle.lists.specs.Cells.{cell, Entry}
@@ -12,46 +12,10 @@ use Rattle.flash.specs.Medium.{views}
 use Rattle.nodes.specs.Nodes.{wordAt}
 use Rattle.state.specs.State.{Held}
 use Rattle.recovery.specs.Recovery.{recoveryWith, recover as recoverOf}
-use Rattle.valve_log.specs.History.{UnderWay, nothing, appending, committing, collecting, flushing, History, Told}
-use Rattle.valve_log.specs.History.{unchanged, beganAppend, beganCommit, beganCollect, putIn, beganFlush, steppedPage, steppedBlock, recovery, assignGroups}
-use Rattle.valve_log.specs.Reached.{World, happen, happened, Before, Reached, Words}
+use Rattle.valve_log.specs.History.{History, assignGroups}
+use Rattle.valve_log.specs.Reached.{World, Reached, Words}
+use Rattle.valve_log.specs.Made.{groupsMade}
 use Rattle.fading.specs.Fading.{Faded}
-
--- ---- what was made
-
--- the groups that a step on a page finishes, by what is under way: an append with one page left is one group, a flush all of its own
-unfoldable pub groupsFinished : UnderWay → List (List Entry)
-groupsFinished nothing = []
-groupsFinished (appending es zero) = []
-groupsFinished (appending es (suc zero)) = es ∷ []
-groupsFinished (appending es (suc (suc n))) = []
-groupsFinished (committing n) = []
-groupsFinished collecting = []
-groupsFinished (flushing gs zero) = []
-groupsFinished (flushing gs (suc zero)) = gs
-groupsFinished (flushing gs (suc (suc n))) = []
-
--- the groups that count where the history h is told something
-unfoldable pub groupsCounting : History → Told → List (List Entry)
-groupsCounting h unchanged = []
-groupsCounting h (beganAppend es) = []
-groupsCounting h beganCommit = []
-groupsCounting h beganCollect = []
-groupsCounting h (putIn es) = []
-groupsCounting h beganFlush = []
-groupsCounting h steppedPage = groupsFinished (h .underWay)
-groupsCounting h steppedBlock = []
-groupsCounting h recovery = []
-
--- All groups that have counted along a list, the first to count first; a commit takes none away.
-unfoldable pub groupsMadeBefore : {w : World} {h : History} → Before w h → List (List Entry)
-groupsMadeBefore (Before.start w F e) = []
-groupsMadeBefore (Before.next w h e b) = groupsMadeBefore b ++ groupsCounting h (happened w e .told)
-
-unfoldable pub groupsMade : {w : World} {h : History} → Reached w h → List (List Entry)
-groupsMade (Reached.start w F e) = []
-groupsMade (Reached.next w h e r) = groupsMade r ++ groupsCounting h (happen w e .told)
-groupsMade (Reached.takenOver b) = groupsMadeBefore b
 
 -- ---- nothing that was not made, no order that did not occur
 

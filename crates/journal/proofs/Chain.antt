@@ -39,7 +39,7 @@ use Rattle.valve_log.specs.Reached as reached
 use Rattle.valve_log.specs.Reached.{World, world, withState, stepDue, Event, fresh, lentAnew, called, filled, stepped, recovered, cutShort}
 use Rattle.valve_log.specs.Reached.{happen, accepted, finishes, meanwhile, Words, end, more, Shows, Point3}
 use Rattle.valve_log.specs.Steady.{Steady, Answers}
-use Rattle.valve_log.proofs.Point3.{point3}
+use Rattle.valve_log.proofs.Point3.{point3, words-are}
 use Rattle.valve_log.proofs.Steady.{steady}
 use Rattle.journal.specs.Run.{Machine, meant, worldOf, goingOn, lentOn, Moves, begunBy, steppedBy, recoveredBy, toldBy, saysFinished}
 use Rattle.journal.specs.Run.{finishedBy, meanwhileBy, Formatting, Run, openingIn, Handed, Point3OfCode}
@@ -322,16 +322,11 @@ module _ (m : List ℕ) (log : List (List Entry)) (s : Held) (a : recoverOf (len
   pub found-state : meaning (r .state) ≡ s
   found-state = gave-value (r .number) (meaning (r .state)) s says
 
--- place by place an index that has these words is sound, and they are the words at its addresses
+-- place by place an index that has these words is sound
 words-sound : (v : List View) {index settings : List Cell} → Words v index settings → sound v index ≡ true
 unfolding sound all
 words-sound v end = refl
 words-sound v (more {k} {a} q t) = and-both (ap isSome q ∙ (unfold isSome in refl)) (words-sound v t)
-
-words-are : (v : List View) {index settings : List Cell} → Words v index settings → words v index ≡ settings
-unfolding words
-words-are v end = refl
-words-are v (more {k} {a} {w} q t) = ap₂ _∷_ (ap (λ o. cell k (valueOr 0 o)) q ∙ (unfold valueOr in refl)) (words-are v t)
 
 -- a medium that shows a history, and the state recovered from it passes 1 and 7
 module _ (m : List ℕ) (h : History) (S : Shows m h) (size : sizeOk (length m) ≡ true) (fits : fit (views m) (S .state) ≡ true) where

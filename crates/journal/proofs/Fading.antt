@@ -29,12 +29,13 @@ use Rattle.valve_log.specs.History.{History, history, nothing}
 use Rattle.valve_log.specs.Reached.{World, Event, happen, Earlier, happened, Before, Reached, Shows, Point3}
 use Rattle.valve_log.proofs.Point3.{reached-upheld, point3}
 use Rattle.fading.specs.Fading.{Faded, AsThen, RefusedWith4To6}
-use Rattle.fading.specs.Made.{groupsCounting, groupsMadeBefore}
+use Rattle.valve_log.specs.Made.{groupsCounting, groupsMadeBefore, Tallied}
+use Rattle.valve_log.proofs.Made.{tell-tallied, start-tallied, before-tallied}
 use Rattle.fading.proofs.Standing.{Within, nextSerial, next-within}
 use Rattle.fading.proofs.Same.{accepted, recovers, recover-cases, state-found, serial-found}
 use Rattle.fading.proofs.Moments.{PageChange, happen-change, changed-before, OlderStand, older-apart, Along, along-now, along-next, AtSerial, at-now, at-next, start-next}
 use Rattle.fading.proofs.Fading.{faded-within, next-two, as-since, refused-with-4-to-6}
-use Rattle.fading.proofs.Made.{Tallied, tell-tallied, start-tallied, before-tallied, MadeSince, none-since, more-since, log-among, settings-then}
+use Rattle.fading.proofs.Made.{MadeSince, none-since, more-since, log-among, settings-then}
 use Rattle.journal.specs.Run.{Machine, worldOf, Moves, toldBy, startingOn, Run, Handed}
 use Rattle.journal.specs.Reader.{ReadOut}
 use Rattle.journal.specs.Fading.{RunAtOrBefore, now, earlier, older, MomentOfRun, TurnedBack, HandedAsThen, TurnedBackOrHanded, refuses, hands, FadesOfCode}

@@ -10,3 +10,4 @@ pub mod Housekeeping
 pub mod Fading
 pub mod Reaching
 pub mod Orders
+pub mod Archive

@@ -5,7 +5,7 @@ use mathlib.Core.Option.{Option, none, some}
 use mathlib.Core.List.{List, [], _∷_, _++_}
 use Prim.Native.Nat.{ℕ}
 use native.Mathlib.Omega.{arith}
-use lib.Dec.{ltb, eqb}
+use lib.Dec.{leb, ltb, eqb}
 use lib.ListN.{length, take}
 use borrow.Author.Tests.{lt-ltb}
 use Rattle.lists.specs.Needs.{Answer, refused, gives, Need, need, under, checked, answerOr, andThen, refusalOf}
@@ -17,7 +17,8 @@ use Rattle.blocks.specs.Blocks.{sizeOk, pageDue}
 use Rattle.nodes.specs.Nodes.{sound, live, pickBelow}
 use Rattle.state.specs.State.{Pending, idle, append, commit, collect, format, flush, unnamed, Held, pendingFit, fit, isIdle, fitWith, bufferedIn}
 use Rattle.flash.specs.Medium.{views}
-use Rattle.recovery.specs.Recovery.{Recovery, recoverNeeds, recover}
+use Rattle.recovery.specs.Recovery.{Recovery, recoverNeeds, recoveryWith, recoveredState, recover}
+use Rattle.news.specs.News.{Mark, markOf, comesAfter, newsNeeds, compared, newsAfter}
 use Rattle.readings.specs.Readings.{openingOf, lastNaming, sought, soughtIn, wordNeeds, wordRefusal, pickOf, surveyOf, availableOf, filedInto, filedLog, readLog, filedSettings, readSettings}
 use Rattle.calls.specs.Calls.{appendNeeds, appendOf, commitOf, collectOf}
 use Rattle.calls.specs.Orders.{numbersOf, refusalIn, InPapersOrder}
@@ -196,6 +197,16 @@ unfolding startPlace refusalIn andThen answerOr
 made-refusal m (refused n) = refl
 made-refusal m (gives r) = refl
 
+-- after recovery's conditions the call asks its own two
+news-refusal : (filed : Mark) (R : Recovery) (cs : List Need) → newsAfter filed (under cs (gives R)) .number ≡ refusalOf (cs ++ newsNeeds filed (markOf R))
+unfolding newsAfter compared under refusalOf answerOr
+news-refusal filed R [] =
+    let k = markOf R in
+    by-cases (leb (filed .serial) (k .serial))
+    (λ e. by-cases (comesAfter filed k) (λ f. rw (e, f) refl) (λ f. rw (e, f) refl))
+    (λ e. rw e refl)
+news-refusal filed R (c ∷ cs) = by-cases (c .holds) (λ e. rw e (news-refusal filed R cs)) (λ e. rw e refl)
+
 pub all-ordered : AllInPapersOrder
 unfolding AllInPapersOrder numbersOf
 all-ordered n v s b lists =
@@ -215,6 +226,8 @@ all-ordered n v s b lists =
             (checked-refusal _ _);
         order = refl;
       };
+      news = λ filed. unfold recover logIn in news-refusal filed _ (recoverNeeds n v);
+      news-order = λ filed. refl;
       mattered = λ out. record {
         first = unfold readMattered recover listedIn logIn in then-refusal (recoverNeeds n v) _ _ _
             (checked-refusal _ _);

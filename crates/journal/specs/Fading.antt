@@ -23,7 +23,7 @@ use Rattle.mattered.specs.Listed.{ListsMattered}
 use Rattle.valve_log.specs.History.{History, history, nothing, assignGroups, tell}
 use Rattle.valve_log.specs.Reached.{World, Event, Earlier, happened, Before}
 use Rattle.fading.specs.Fading.{Faded}
-use Rattle.fading.specs.Made.{groupsCounting, groupsMadeBefore}
+use Rattle.valve_log.specs.Made.{groupsCounting, groupsMadeBefore}
 use Rattle.journal.specs.Run.{Machine, worldOf, Moves, toldBy, startingOn, Run, Handed}
 use Rattle.journal.specs.Reader.{ReadOut}
 

@@ -9,3 +9,4 @@ pub mod Mattered
 pub mod Housekeeping
 pub mod Fading
 pub mod Orders
+pub mod Archive

@@ -15,7 +15,7 @@ use Rattle.nodes.specs.Nodes.{words}
 use Rattle.recovery.specs.Recovery.{Recovery}
 use Rattle.valve_log.specs.History.{History, start as noHistory, tell}
 use Rattle.valve_log.specs.Reached.{World, world, fresh, lentAnew, stepDue, Event, Moment, still, stepped, happen, accepted, finishes, meanwhile, Formatting, Reached, Words, Point3}
-use Rattle.valve_log.proofs.Point3.{reached-upheld, point3}
+use Rattle.valve_log.proofs.Point3.{reached-upheld, point3, words-are}
 use Rattle.trace.specs.Trace.{Recorded}
 use Rattle.player.specs.Lines.{summary, recoveryLines}
 use Rattle.player.specs.Run.{played, playedRecovery, recoverIn, linesFrom}
@@ -82,11 +82,6 @@ next-stands p w c (since {h = h} r small) i = goes-on w h (played w c .moment) r
 next-stands p w c unpromised i = unpromised
 
 -- ---- the lines of a call
-
-words-are : (v : List View) {index settings : List Setting} → Words v index settings → words v index ≡ settings
-unfolding words valueOr
-words-are v Words.end = refl
-words-are v (Words.more {k = k} {a = a} {w = w} e ws) = rw (e, words-are v ws) refl
 
 -- a recovery after formatting, by point 3
 pub recovery-lines : (w : World) (h : History) → Reached w h → summary (h .log) (h .settings) ≡ playedRecovery w (recoverIn w) .lines

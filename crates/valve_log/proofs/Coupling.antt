@@ -135,3 +135,8 @@ fits v s h =
       address = all-weaken (placeFit (s .head .blocks)) (λ (x : Cell). ltb (x .val) (384 * s .head .blocks)) (λ x e. unfold placeFit in every-at 1 _ e) (s .index) (every-at 2 _ b);
       serial = leb-true 1 (s .head .serial) (every-at 4 _ a);
     }
+
+-- and what is pending fits too
+pub pending-fit : (v : List View) (s : Held) → fit v s ≡ true → pendingFit v (s .head) (s .index) (s .pending) ≡ true
+unfolding fit
+pending-fit v s f = every-at 2 _ f

@@ -24,7 +24,7 @@ use Rattle.flash.specs.Medium.{mostPages, seen}
 use Rattle.flash.proofs.Cuts.{CutViews}
 use Rattle.blocks.specs.Blocks.{sizeOk, reachesBase, oldBlock, newHead, pageDue, collectible}
 use Rattle.nodes.specs.Nodes.{inBlock, sound, words, live, wordAt}
-use Rattle.state.specs.State.{Pending, idle, Held, basePages, pendingFit, fit, isIdle, fitWith, bufferedIn}
+use Rattle.state.specs.State.{Pending, idle, Held, basePages, isIdle, fitWith, bufferedIn}
 use Rattle.calls.specs.Calls.{serialsFor}
 use Rattle.recovery.specs.Recovery.{Placed, Group}
 use Rattle.step.specs.Step.{Step, isLast, groupPage, appended, committed, collected, erasing, erasedFirst, pageNeeds, programming, appendStep}
@@ -38,7 +38,7 @@ use Rattle.valve_log.proofs.Views.{cut-lost, clean-same, word-same}
 use Rattle.valve_log.proofs.Groups.{page-most}
 use Rattle.valve_log.proofs.Small.{small-part, small-places, small-words, SmallWords, narrow}
 use Rattle.valve_log.proofs.Sound.{Sound, lost-sound}
-use Rattle.valve_log.proofs.Coupling.{Pend, at-rest, in-append, in-commit, in-collect, in-flush, Alive, alive, alive-of, Coupled, Fits, fits, Awaited, awaited}
+use Rattle.valve_log.proofs.Coupling.{Pend, at-rest, in-append, in-commit, in-collect, in-flush, Alive, alive, alive-of, Coupled, Fits, fits, Awaited, awaited, pending-fit}
 use Rattle.valve_log.proofs.Steps.{page-serial, ap-lawful, ap-more, ap-last, cm-lawful, cm-more, cm-last, cl-lawful, cl-more, fl-lawful, fl-last}
 use Rattle.valve_log.proofs.Lent.{Beside, Lent, lent-groups, state-fit, notFlush, lent-none, lent-after, kept-append, kept-commit}
 
@@ -302,7 +302,4 @@ unfolding stepOf
 step-good n v s b h texts few c L =
     checked-cases (Good v s b h) (need 1 (sizeOk n) ∷ need 7 (fitWith v s b) ∷ need 9 (not (isIdle (s .pending))) ∷ []) (erasedFirst v s (due v s (bufferedIn b) (s .pending))) (refused-good v s b h)
     (λ e. let f = state-fit v s b (unfold tests in every-at 1 _ e) in
-    awaited-good v s b h texts few c L (fits v s f) (awaited v s (s .pending) (pending-fit f)))
-  where
-    pending-fit : fit v s ≡ true → pendingFit v (s .head) (s .index) (s .pending) ≡ true
-    pending-fit f = unfold fit in every-at 2 _ f
+    awaited-good v s b h texts few c L (fits v s f) (awaited v s (s .pending) (pending-fit v s f)))

@@ -7,8 +7,10 @@ use Prim.Native.Nat.{ℕ, zero, suc, _*_, _/_, _≤_, _<_}
 use native.Mathlib.Omega.{arith}
 use native.Mathlib.Decide.{decLt}
 use lib.ListN.{length, getD}
+use lib.Seq.{ext-getD}
 use Rattle.lists.specs.Lists.{Bytes}
 use Rattle.lists.specs.Needs.{Answer, refused, gives, under}
+use Rattle.lists.proofs.Laws.{same-given}
 use Rattle.page.specs.Pages.{clean}
 use Rattle.page.specs.Layout.{viewOf}
 use Rattle.page.proofs.Buffer.{gathered-blank}
@@ -24,7 +26,7 @@ use Rattle.step.specs.Step.{Step, formatted, stepOf, mediumAfter, bufferAfter}
 use Rattle.step.proofs.Formats.{erase-due, base-due}
 use Rattle.valve_log.specs.History.{start}
 use Rattle.valve_log.specs.Reached.{World, world, fresh, withState, stepDue, Event, stepped, happen, finishes, meanwhile, Formatting, Reached}
-use Rattle.valve_log.specs.Finished.{stepsOn, Finished, FormattingFinishes}
+use Rattle.valve_log.specs.Finished.{stepsOn, Finished, FormattingFinishes, FormattedAlike}
 use Rattle.valve_log.proofs.Events.{sized}
 use Rattle.valve_log.proofs.Formats.{one-more, basePage, blank-page, page-there, length-after}
 
@@ -57,6 +59,11 @@ program-over s = refl
 
 -- ---- after k steps the first k blocks are erased
 
+-- and recorded as erased
+recordsAfter : ℕ → ℕ → List Bool
+recordsAfter n zero = formatting (n / 4096) .erased
+recordsAfter n (suc k) = nowErased (recordsAfter n k) k
+
 record Erased (n k : ℕ) (w : World) : Type 0 where
   pub medium : List ℕ
   pub records : List Bool
@@ -64,6 +71,7 @@ record Erased (n k : ℕ) (w : World) : Type 0 where
   pub long : length medium ≡ n
   pub bytes : Bytes medium
   pub blanks : (i : ℕ) → i < 4096 * k → getD medium i 0 ≡ 255
+  pub recorded : records ≡ recordsAfter n k
 
 module _ (n : ℕ) (size : sizeOk n ≡ true) where
   -- the step erases the next block
@@ -88,7 +96,7 @@ module _ (n : ℕ) (size : sizeOk n ≡ true) where
     goes-on = ap (λ (x : World). finishes (stepDue x)) (E .is) ∙ ap finishes (due-is m _ _ erases) ∙ erase-open k _
 
     erased-more : Erased n (suc k) (happen w Event.step .after)
-    unfolding one-more
+    unfolding one-more recordsAfter
     erased-more =
         let l : length (erased m k) ≡ length m = erase-length m k (omega (arith, E .long)) in
         let I = one-more m fresh k (E .records) size-here (E .bytes) (omega (arith, E .long)) (E .blanks) (omega (arith, E .long)) in
@@ -101,6 +109,7 @@ module _ (n : ℕ) (size : sizeOk n ≡ true) where
           long = l ∙ E .long;
           bytes = I .bytes;
           blanks = I .blanks;
+          recorded = ap (λ (o : List Bool). nowErased o k) (E .recorded);
         }
 
   -- with all blocks erased the step writes the base
@@ -160,7 +169,8 @@ begun-there n size = rw size
 
 module _ (m : List ℕ) (b : Bytes m) (size : sizeOk (length m) ≡ true) where
   at-first : Erased (length m) 0 (first m)
-  at-first = record { medium = m; records = formatting (length m / 4096) .erased; is = unfold formatting in refl; long = refl; bytes = b; blanks = λ i h. absurd (omega arith) }
+  unfolding recordsAfter
+  at-first = record { medium = m; records = formatting (length m / 4096) .erased; is = unfold formatting in refl; long = refl; bytes = b; blanks = λ i h. absurd (omega arith); recorded = refl }
 
   at : (k : ℕ) → k ≤ length m / 4096 → Erased (length m) k (stepsOn k (first m))
   unfolding stepsOn
@@ -213,3 +223,26 @@ module _ (m : List ℕ) (b : Bytes m) (size : sizeOk (length m) ≡ true) where
 pub formatting-finishes : FormattingFinishes
 unfolding FormattingFinishes
 formatting-finishes = finished
+
+-- ---- whatever the medium was
+
+-- all blocks erased, it is blank
+same-blank : (n : ℕ) {w w′ : World} (E : Erased n (n / 4096) w) (E′ : Erased n (n / 4096) w′) → sizeOk n ≡ true → E′ .medium ≡ E .medium
+same-blank n E E′ size =
+    ext-getD 0 (E′ .medium) (E .medium) (E′ .long ∙ sym (E .long))
+    (λ i h. let S = sized n size in let j : i < 4096 * (n / 4096) = omega (arith, E′ .long, S .even) in E′ .blanks i j ∙ sym (E .blanks i j))
+
+same-world : (n : ℕ) (w w′ : World) → Erased n (n / 4096) w → Erased n (n / 4096) w′ → sizeOk n ≡ true → w′ ≡ w
+same-world n w w′ E E′ size =
+    E′ .is ∙ rw (same-blank n E E′ size, E′ .recorded ∙ sym (E .recorded)) (sym (E .is))
+
+pub formatted-alike : FormattedAlike
+unfolding FormattedAlike stepsOn
+formatted-alike m m′ b b′ size long s f =
+    let g : formatting (length m / 4096) ≡ s = same-given (sym (begun-there (length m) size) ∙ f) in
+    let k : length m / 4096 ≤ length m / 4096 = omega arith in
+    let E = at m b size (length m / 4096) k in
+    let there = world m′ (some (formatting (length m / 4096))) fresh in
+    let E′ : Erased (length m) (length m / 4096) (stepsOn (length m / 4096) there) = rw long at (at m′ b′ (rw long size) (length m / 4096) (omega (arith, long))) in
+    let same = same-world (length m) (stepsOn (length m / 4096) (first m)) (stepsOn (length m / 4096) there) E E′ size in
+    rw (← g) (ap (λ (w : World). happen w Event.step .after) same)

@@ -35,6 +35,12 @@ words-of v (x ∷ l) h =
     has none e = true-false e (unfold isSome in refl)
     has (some w) e = unfold valueOr in refl
 
+-- and the other way
+pub words-are : (v : List View) {index settings : List Cell} → Words v index settings → words v index ≡ settings
+unfolding words valueOr
+words-are v Words.end = refl
+words-are v (Words.more {k = k} {a = a} {w = w} e ws) = rw (e, words-are v ws) refl
+
 -- what the invariant says of recovery
 pub upheld-shows : (w : World) (h : History) → Upheld w h → Shows (w .medium) h
 upheld-shows w h U =

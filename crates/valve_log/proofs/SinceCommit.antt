@@ -20,7 +20,7 @@ use Rattle.index.proofs.Entries.{all-rising, assign-append}
 use Rattle.valve_log.specs.History.{UnderWay, nothing, appending, committing, collecting, flushing, History, start as noHistory, Told, unchanged}
 use Rattle.valve_log.specs.History.{beganAppend, beganCommit, beganCollect, putIn, beganFlush, steppedPage, steppedBlock, recovery, counted, tell}
 use Rattle.valve_log.specs.Reached.{World, happen, happened, Before, Reached, Words, Point3}
-use Rattle.valve_log.specs.SinceCommit.{commitEndsNext, settingsAtCommit, lastCommittedBefore, lastCommitted, EffectExplains}
+use Rattle.valve_log.specs.SinceCommit.{commitEndsNext, commitCounts, settingsAtCommit, lastCommittedBefore, lastCommitted, EffectExplains}
 use Rattle.valve_log.proofs.Point3.{point3}
 use Rattle.valve_log.proofs.Steps.{assign-groups}
 
@@ -140,7 +140,7 @@ counted-since h s (flushing gs (suc zero)) k =
 counted-since h s (flushing gs (suc (suc n))) k = record { rises = k .rises; rises-now = k .rises-now; so = k .so }
 
 pub tell-since : (h : History) (s : List Setting) (t : Told) → Since h s → Since (tell h t) (settingsAtCommit s h t)
-unfolding tell settingsAtCommit
+unfolding tell settingsAtCommit commitCounts
 tell-since h s unchanged k = k
 tell-since h s (beganAppend es) k = record { rises = k .rises; rises-now = k .rises-now; so = k .so }
 tell-since h s beganCommit k = record { rises = k .rises; rises-now = k .rises-now; so = k .so }

@@ -43,3 +43,10 @@ pub record HoldsValveZero (word : ℕ) : Type 0 where
 -- "Media that hold it": each word, on each medium of four blocks
 unfoldable pub ValveZeroReached : Type 0
 ValveZeroReached = (m : List ℕ) → Bytes m → length m ≡ 16384 → (word : ℕ) → word < 2 ^ 64 → HoldsValveZero word
+
+-- Whatever stood on a medium: formatted, it is the same byte for byte, and so is the state. So the same calls then lead to the same media, and nothing on one
+-- tells which formatting it comes after.
+unfoldable pub FormattedAlike : Type 0
+FormattedAlike =
+    (m m′ : List ℕ) → Bytes m → Bytes m′ → sizeOk (length m) ≡ true → length m′ ≡ length m → (s : Held) → formatOf (length m) ≡ gives s
+    → stepsOn (suc (length m / 4096)) (world m′ (some s) fresh) ≡ stepsOn (suc (length m / 4096)) (world m (some s) fresh)

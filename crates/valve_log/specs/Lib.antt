@@ -11,3 +11,5 @@ pub mod Settings
 pub mod Flushable
 pub mod Older
 pub mod SinceCommit
+pub mod Made
+pub mod Base

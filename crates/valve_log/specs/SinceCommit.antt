@@ -26,17 +26,21 @@ commitEndsNext (committing (suc (suc n))) = false
 commitEndsNext collecting = false
 commitEndsNext (flushing gs n) = false
 
+-- a commit counts where the history h is told this
+unfoldable pub commitCounts : History → Told → Bool
+commitCounts h unchanged = false
+commitCounts h (beganAppend es) = false
+commitCounts h beganCommit = false
+commitCounts h beganCollect = false
+commitCounts h (putIn es) = false
+commitCounts h beganFlush = false
+commitCounts h steppedPage = commitEndsNext (h .underWay)
+commitCounts h steppedBlock = false
+commitCounts h recovery = false
+
 -- The settings at the last counted commit, s so far, after what the history h is told: where a commit counts they are the history's.
 unfoldable pub settingsAtCommit : List Setting → History → Told → List Setting
-settingsAtCommit s h unchanged = s
-settingsAtCommit s h (beganAppend es) = s
-settingsAtCommit s h beganCommit = s
-settingsAtCommit s h beganCollect = s
-settingsAtCommit s h (putIn es) = s
-settingsAtCommit s h beganFlush = s
-settingsAtCommit s h steppedPage = cond (commitEndsNext (h .underWay)) (h .settings) s
-settingsAtCommit s h steppedBlock = s
-settingsAtCommit s h recovery = s
+settingsAtCommit s h t = cond (commitCounts h t) (h .settings) s
 
 -- along a list of calls and cuts; "none set before the first"
 unfoldable pub lastCommittedBefore : (w : World) (h : History) → Before w h → List Setting

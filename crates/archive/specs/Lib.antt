@@ -1,0 +1,4 @@
+pub mod Archive
+pub mod Faded
+pub mod Periods
+pub mod Examples

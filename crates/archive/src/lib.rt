@@ -1,0 +1,1 @@
+// The user's archive: definitions and theorems.
