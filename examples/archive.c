@@ -44,14 +44,6 @@ typedef struct Mark {
     uint64_t length, base, serial, changes, begin, end;
 } Mark;
 
-/* What is new on a medium: the changes from number `first` on; and its base, its next serial and its number of changes. */
-typedef struct News {
-    uint8_t number; /* 0, or that of the refusal; then the rest is 0 */
-    size_t first;
-    uint64_t base, serial;
-    size_t count;
-} News;
-
 /* Ends the program with a message; status 2 says which error it was. */
 static void stop(int status, const char *form, ...)
 {
@@ -171,22 +163,6 @@ static int read_mark(Mark *m)
     return 1;
 }
 
-/* What is new on a medium, for an archive that filed so many changes of this base last, at this next serial. Refuses 1 to 6 as recovery
- * does; 28 where the medium is of an earlier moment than the filing, 29 where it is another one. */
-static News news(const uint8_t *bytes, size_t length, uint64_t base, uint64_t serial, size_t count)
-{
-    VjRecovered found = vj_recover(bytes, length);
-    VjCount log = vj_log(bytes, length, keys, CHANGES, words, CHANGES, groups, CHANGES);
-    VjHead head = found.state.head;
-    if (found.number != VJ_ACCEPTED || log.number != VJ_ACCEPTED)
-        return (News){found.number != VJ_ACCEPTED ? found.number : log.number, 0, 0, 0, 0};
-    if (head.serial < serial)
-        return (News){28, 0, 0, 0, 0};
-    if (head.base == base ? log.count < count : head.base < serial)
-        return (News){29, 0, 0, 0, 0};
-    return (News){0, head.base == base ? count : 0, head.base, head.serial, log.count};
-}
-
 /* Reads the chip, of so many bytes, and recovers. */
 static void open_chip(const char *name, uint64_t length)
 {
@@ -200,14 +176,14 @@ static void open_chip(const char *name, uint64_t length)
 }
 
 /* What is new on the chip; ends the program where it is not the medium that was filed. */
-static News look(const char *name, const Mark *mark)
+static VjNews look(const char *name, const Mark *mark)
 {
     if (journal.length != mark->length)
         stop(1, "%s has %zu bytes, and the medium that was filed %" PRIu64 ": cut off, or another one", name, journal.length, mark->length);
-    News found = news(journal.medium, journal.length, mark->base, mark->serial, (size_t)mark->changes);
-    if (found.number == 28)
+    VjNews found = vj_news(journal.medium, journal.length, mark->base, mark->serial, (size_t)mark->changes);
+    if (found.number == VJ_REFUSED_EARLIER)
         stop(1, "%s is of an earlier moment than the last filing, or another medium, or formatted since (28)", name);
-    if (found.number == 29)
+    if (found.number == VJ_REFUSED_OTHER)
         stop(1, "%s is another medium than the one filed last, or formatted since (29)", name);
     if (found.number != VJ_ACCEPTED)
         stop(1, "%s is refused with %u: %s", name, (unsigned)found.number, vj_refusal_text(found.number));
@@ -215,7 +191,7 @@ static News look(const char *name, const Mark *mark)
 }
 
 /* The log as rows: how many bytes they have. The row of change `first` begins at *start. */
-static size_t write_rows(const News *found, size_t *start)
+static size_t write_rows(const VjNews *found, size_t *start)
 {
     size_t used = 0;
     VjCount log = vj_log(journal.medium, journal.length, keys, CHANGES, words, CHANGES, groups, CHANGES);
@@ -249,7 +225,7 @@ static size_t file_settings(void)
 }
 
 /* Files what is new: the rows, then the settings, then the mark. Where the base is the one filed last, its rows are checked before. */
-static void file_news(const char *name, const Mark *old, const News *found)
+static void file_news(const char *name, const Mark *old, const VjNews *found)
 {
     size_t start = 0, used = write_rows(found, &start);
     uint64_t begin = found->base == old->base ? old->begin : old->end;
@@ -273,7 +249,7 @@ static void file_news(const char *name, const Mark *old, const News *found)
 }
 
 /* Commits, where there is something in the log: it is filed. */
-static void commit(const char *name, const News *found)
+static void commit(const char *name, const VjNews *found)
 {
     if (found->count == 0)
         return;
@@ -305,7 +281,7 @@ static void file_and_commit(const char *name)
     Mark mark;
     if (!read_mark(&mark))
         stop(1, "the folder has no mark: `archive new` starts one");
-    News found = look(name, &mark);
+    VjNews found = look(name, &mark);
     file_news(name, &mark, &found);
     commit(name, &found);
 }

@@ -29,20 +29,6 @@ fn look<T>(message: String) -> Result<T, Stop> {
     Err(Stop::Look(message))
 }
 
-// Of a log that was filed: its base, the next serial then, and how many changes it had; zeros where nothing was filed since formatting.
-#[derive(Clone, Copy, Default)]
-struct Mark {
-    base: u64,
-    serial: u64,
-    count: usize,
-}
-
-// What is new in a log: the changes from number `first` on. And the mark of this log.
-struct News {
-    first: usize,
-    mark: Mark,
-}
-
 // The file `mark`: the medium's length, the mark of the log filed last, and from where to where its rows stand in changes.csv.
 struct Filed {
     length: usize,
@@ -156,9 +142,9 @@ impl Chip {
         }
         match news(&self.medium, filed.mark) {
             Ok(found) => Ok(found),
-            Err(28) => look(format!("{name} is of an earlier moment than the last filing, or another medium, or formatted since (28)")),
-            Err(29) => look(format!("{name} is another medium than the one filed last, or formatted since (29)")),
-            Err(number) => look(format!("{name} is refused with {number}")),
+            Err(Refusal::Earlier) => look(format!("{name} is of an earlier moment than the last filing, or another medium, or formatted since (28)")),
+            Err(Refusal::Other) => look(format!("{name} is another medium than the one filed last, or formatted since (29)")),
+            Err(refusal) => look(format!("{name} is {refusal}")),
         }
     }
 
@@ -177,21 +163,6 @@ impl Chip {
         while !self.step()? {}
         Ok(())
     }
-}
-
-// What is new on a medium, for an archive that filed this mark last. Refuses 1 to 6 as recovery does; 28 where the medium is of an earlier
-// moment than the filing, 29 where it is another one.
-fn news(medium: &[u8], filed: Mark) -> Result<News, u8> {
-    let head = recover(medium).map_err(|refusal| refusal as u8)?.head;
-    let count = changes(medium).map_err(|refusal| refusal as u8)?.count();
-    let goes_on = head.base == filed.base;
-    if head.serial < filed.serial {
-        return Err(28);
-    }
-    if (goes_on && count < filed.count) || (!goes_on && head.base < filed.serial) {
-        return Err(29);
-    }
-    Ok(News { first: if goes_on { filed.count } else { 0 }, mark: Mark { base: head.base, serial: head.serial, count } })
 }
 
 // Files what is new: the rows, then the settings, then the mark. Where the base is the one filed last, its rows are checked before.

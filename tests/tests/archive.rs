@@ -612,7 +612,7 @@ const WRONG_IN_C: [Wrong; 13] = [
         ("renameat(folder, temporary, folder, name) != 0 || ", ""),
     ]),
     ("front not checked", "other changes", &[(" || memcmp(rows, filed, same) != 0", "")]),
-    ("count of an older base", "other changes", &[("head.base == base ? count : 0, head.base", "count, head.base")]),
+    ("count of an older base", "another medium", &[("found->serial, found->count, begin", "found->serial, old->changes + found->count - found->first, begin")]),
     ("rows behind the mark kept", "the changes", &[
         ("ftruncate(csv, (off_t)old->end) != 0 || put(csv, rows + start, used - start, old->end) != 0",
          "put(csv, rows + start, used - start, size_of(csv, \"changes.csv\")) != 0"),
@@ -647,7 +647,7 @@ const WRONG_IN_RUST: [Wrong; 13] = [
         ("fs::rename(&temporary, &lasting).and_then(|()| self.file.sync_all())", "self.file.sync_all()"),
     ]),
     ("front not checked", "other changes", &[("front.as_bytes() != filed", "front.len() != filed.len()")]),
-    ("count of an older base", "other changes", &[("first: if goes_on { filed.count } else { 0 }", "first: filed.count.min(count)")]),
+    ("count of an older base", "another medium", &[("mark: found.mark,", "mark: Mark { count: old.mark.count + found.mark.count - found.first, ..found.mark },")]),
     ("rows behind the mark kept", "the changes", &[
         ("csv.set_len(old.end).and_then(|()| put(&csv, new.as_bytes(), old.end))",
          "csv.metadata().and_then(|about| put(&csv, new.as_bytes(), about.len()))"),

@@ -26,7 +26,7 @@ use Rattle.valve_log.specs.Base.{Rises}
 use Rattle.valve_log.specs.Made.{groupsCounting}
 use Rattle.valve_log.proofs.Made.{tell-joins, tell-empties}
 use Rattle.valve_log.proofs.Point3.{words-are}
-use Rattle.archive.specs.Archive.{Reading, readingWith, readingBy, read, Archive, archive, nothingFiled, file, EndsWith, NewsRight}
+use Rattle.archive.specs.Archive.{Reading, readingWith, readingBy, read, Archive, archive, file, EndsWith, NewsRight}
 
 -- ---- what is new, by the base and the log
 
@@ -64,8 +64,14 @@ pub record Kept (a : Archive) (b s : ℕ) (log made : List (List Entry)) : Type 
 pub kept-same : {a : Archive} {b b′ s s′ : ℕ} {log log′ made made′ : List (List Entry)} → b ≡ b′ → s ≡ s′ → log ≡ log′ → made ≡ made′ → Kept a b s log made → Kept a b′ s′ log′ made′
 kept-same i j k l K = rw (← i, ← j, ← k, ← l) K
 
-pub start-kept : (b s : ℕ) → Kept nothingFiled b s [] []
-start-kept b s = record { once = new-none noMark b ∙ sym no-changes; low = omega arith; enough = λ e. omega arith; late = λ n. omega arith; next = omega arith }
+-- where the mark says that nothing is filed, all of the log is new
+new-all : (b : ℕ) (l : List Entry) → newAt noMark b l ≡ l
+new-all b l = by-eq b 0 (λ e. new-equal noMark b l e) (λ n. new-other noMark b l n)
+
+pub unmarked-kept : (filed : List Entry) (settings : List Setting) (b s : ℕ) (log made : List (List Entry)) → filed ++ changesOf log ≡ changesOf made
+    → Kept (archive filed settings noMark) b s log made
+unmarked-kept filed settings b s log made e =
+    record { once = ap (_++_ filed) (new-all b (changesOf log)) ∙ e; low = omega arith; enough = λ e. omega arith; late = λ n. omega arith; next = omega arith }
 
 module _ {a : Archive} {b s : ℕ} {log made : List (List Entry)} (K : Kept a b s log made) (s′ : ℕ) (rises : s ≤ s′) where
   -- groups count

@@ -10,8 +10,8 @@ use Rattle.valve_log.specs.Reached.{World, Reached}
 use Rattle.valve_log.specs.Made.{groupsMade}
 use Rattle.archive.specs.Archive.{Reading, Archive, Filings}
 
--- Periods from one formatting to the next, each a list of its own whose archive starts with nothing filed, and whose medium is read and filed to the end
--- before it is formatted; with all that was made in them, and all that was filed, period after period.
+-- Periods from one formatting to the next, each a list of its own whose archive starts with nothing filed, or on a medium taken over, and whose medium is read and filed
+-- to the end before it is formatted; with all that was made in them, and all that was filed, period after period.
 pub data Periods : List Entry → List Entry → Type 0 where
   none : Periods [] []
   period : {made filed : List Entry} {w : World} {h : History} {r : Reached w h} {a : Archive} {later : List (List Entry)} {p : Option Reading}

@@ -281,6 +281,28 @@ happen-risen m s bs h Event.cut U = λ e. true-false e refl
 happen-risen m none bs h (Event.cutInside left c) U = absurd (unfold CutOf in c)
 happen-risen m (some s) bs h (Event.cutInside left c) U = cut-risen m s bs h U (stepOf (length m) (views m) s bs) (due-good m s bs h U) left
 
+-- the same of the program as it was before Paper 8
+happened-risen : (m : List ℕ) (s : Option Held) (bs : List ℕ) (h : History) (e : Earlier (world m s bs)) → Upheld (world m s bs) h
+    → Risen m (happened (world m s bs) e .told) (happened (world m s bs) e .after .medium)
+unfolding happened withState stepDueBefore pageTold
+happened-risen m s bs h (Earlier.same e) U = happen-risen m s bs h e U
+happened-risen m none bs h (Earlier.append ks ws a b) U = λ e. true-false e refl
+happened-risen m (some s) bs h (Earlier.append ks ws a b) U = called-risen (world m (some s) bs) _ _ refl
+happened-risen m none bs h (Earlier.buffer ks ws a b) U = λ e. true-false e refl
+happened-risen m (some s) bs h (Earlier.buffer ks ws a b) U = filled-risen (world m (some s) bs) _ _ refl
+happened-risen m none bs h Earlier.flush U = λ e. true-false e refl
+happened-risen m (some s) bs h Earlier.flush U = called-risen (world m (some s) bs) _ _ refl
+happened-risen m none bs h Earlier.step U = unfold stepped in (λ e. true-false e refl)
+happened-risen m (some s) bs h Earlier.step U =
+    step-risen m s bs h U (stepBefore (length m) (views m) s bs) (due-before m s bs h U)
+happened-risen m none bs h (Earlier.cutInside left c) U = absurd (unfold CutOf in c)
+happened-risen m (some s) bs h (Earlier.cutInside left c) U =
+    cut-risen m s bs h U (stepBefore (length m) (views m) s bs) (due-before m s bs h U) left
+
+pub risen-before : (w : World) (h : History) (e : Earlier w) → Before w h
+    → Risen (w .medium) (happened w e .told) (happened w e .after .medium)
+risen-before w h e b = happened-risen (w .medium) (w .state) (w .buffer) h e (before-upheld w h b)
+
 -- the next serial rises by at most one
 pub rise : (m u : List ℕ) → PageChange m u → nextSerial (views u) ≤ suc (nextSerial (views m))
 rise m u F = next-most (suc (nextSerial (views m))) (views u) (omega arith) (λ q y e. go q y (F .pages q y e))

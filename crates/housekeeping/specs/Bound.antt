@@ -14,7 +14,8 @@ use Rattle.blocks.specs.Blocks.{sizeOk, available}
 use Rattle.state.specs.State.{idle, Held, basePages}
 use Rattle.calls.specs.Calls.{zip, holdsNone, appendOf, bufferOf}
 use Rattle.step.specs.Step.{Step}
-use Rattle.dispatcher.specs.Dispatch.{newer, Next, nextOf}
+use Rattle.newest_page.specs.Newer.{newer}
+use Rattle.dispatcher.specs.Dispatch.{Next, nextOf}
 use Rattle.valve_log.specs.History.{History}
 use Rattle.valve_log.specs.Reached.{World, world, fresh, withState, Event, stepDue, happen, finishes, Reached}
 

@@ -31,7 +31,7 @@ use Rattle.log_reader.specs.Reader.{AskedInTurn, GivesLog, stopped, given, none
 use Rattle.log_reader.proofs.FirstToLast.{reads-log}
 use Rattle.log_reader.proofs.Form.{answers as asked}
 use Rattle.news.specs.declared.News.{News}
-use Rattle.news.specs.News.{Mark, mark, refusedNews, newsAfter, newsOf}
+use Rattle.news.specs.News.{Mark, mark, noMark, refusedNews, newsAfter, newsOf}
 use Rattle.valve_log.specs.History.{History, start as noHistory, Told, beganCommit, tell}
 use Rattle.valve_log.specs.Reached.{World, lentAnew, stepDue, Event, happen, finishes, Reached, Shows, Point3}
 use Rattle.valve_log.specs.Reached as reached
@@ -46,9 +46,9 @@ use Rattle.archive.specs.Faded.{FadedFilings, FirstPart, FadedFirstPart, FadedR
 use Rattle.archive.specs.Faded as faded
 use Rattle.archive.proofs.Once.{filed-once, check-passes}
 use Rattle.archive.proofs.Faded.{faded-first-part, faded-refused-with}
-use Rattle.journal.specs.Run.{Machine, worldOf, Moves, toldBy, Run, Handed, Point3OfCode}
+use Rattle.journal.specs.Run.{Machine, meant, worldOf, Moves, toldBy, startingOn, Run, Handed, Point3OfCode}
 use Rattle.journal.specs.Fading.{TurnedBack, TurnedBackOrHanded, refuses, hands, FadesOfCode, groupsMadeBy}
-use Rattle.journal.specs.Archive.{changesGiven, askedToTheEnd, LogReadBy, inLists, changeByChange, ReadBy, answers, FilingsRun, start, move, reading, filing}
+use Rattle.journal.specs.Archive.{changesGiven, askedToTheEnd, LogReadBy, inLists, changeByChange, ReadBy, answers, FilingsRun, start, takenOver, move, reading, filing}
 use Rattle.journal.specs.Archive.{FiledOnceOfCode, CheckPassesOfCode, FadedFilingsRun, begun, FadedFilingOfCode}
 use Rattle.journal.specs.Archive as code
 use Rattle.journal.proofs.Chain.{moves, answers-told, answers-finished, formatting, runs, found-state, point3-of-code}
@@ -187,9 +187,12 @@ list-next w h e w′ t i j L rule =
 
 on-list : (x : Machine) (h : History) (r : Run x h) (a : Archive) (since : List (List Entry)) (p : Option Reading) (later : List (List Entry))
     → FilingsRun x h r a since p later → OnList (worldOf x) h (groupsMadeBy r) a since p later
-unfolding groupsMadeBy
+unfolding groupsMadeBy groupsMade
 on-list x h r a since p later (start {x = z} {y = y} f v last) =
     list-start (worldOf z) (worldOf y) (moves z y Event.step v) (formatting z f) (sym (answers-finished z y v) ∙ last)
+on-list x h r a since p later (takenOver {w = w} {h = g} b before {z = z} m R) =
+    unfold meant in
+    record { list = Reached.takenOver b; made-is = refl; filings = archive.takenOver b before m (run-read (startingOn w) g (Run.takenOver b) noMark z R) }
 on-list x h r a since p later (move {x = y} {h = g} {r = q} {since = s} {later = l} {e = e} v C rule) =
     list-next (worldOf y) g e (worldOf x) (toldBy y x e v) (moves y x e v) (answers-told y x e v) (on-list y g q a s p l C) rule
 on-list x h r a since p later (reading {later = l} {p = q} {z = z} C R) =

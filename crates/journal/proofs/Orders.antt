@@ -28,7 +28,8 @@ use Rattle.log_reader.specs.Reader.{startPlace, startOf}
 use Rattle.spans.specs.Spans.{spanEffect, effectOf}
 use Rattle.mattered.specs.Mattered.{listedIn, readMattered}
 use Rattle.wanted.specs.Wanted.{wantedOf}
-use Rattle.dispatcher.specs.Dispatch.{newer, naming, answers13, collection, roomMaker, nextOf}
+use Rattle.newest_page.specs.Newer.{newer}
+use Rattle.dispatcher.specs.Dispatch.{naming, answers13, collection, roomMaker, nextOf}
 use Rattle.journal.specs.Orders.{logIn, ownNeeds, stepNeeds, collectionRefusal, nextRefusal, StepOrders, AllOrders, AllInPapersOrder}
 
 -- ---- an answer under conditions

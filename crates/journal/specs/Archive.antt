@@ -8,8 +8,9 @@ use mathlib.Core.List.{List, [], _∷_, _++_}
 use Prim.Native.Nat.{ℕ, _≤_}
 use Rattle.lists.specs.Cells.{cell, Entry, pairs}
 use lib.ListN.{drop}
+use Rattle.page.specs.Pages.{changesOf}
 use Rattle.news.specs.declared.News.{News}
-use Rattle.news.specs.News.{Mark, mark, newsOf}
+use Rattle.news.specs.News.{Mark, mark, noMark, newsOf}
 use Rattle.recover.specs.declared.Recovered.{Recovered}
 use Rattle.recover.specs.Recovers.{Recovers}
 use Rattle.filing.specs.declared.Counted.{Counted}
@@ -18,12 +19,12 @@ use Rattle.log_reader.specs.declared.LogPlace.{LogPlace}
 use Rattle.log_reader.specs.declared.ReadChange.{ReadChange}
 use Rattle.log_reader.specs.Reader.{startOf, AskedInTurn}
 use Rattle.valve_log.specs.History.{History, start as noHistory, beganCommit, tell}
-use Rattle.valve_log.specs.Reached.{fresh, Event}
+use Rattle.valve_log.specs.Reached.{World, fresh, Event, Before}
 use Rattle.fading.specs.Fading.{Faded}
-use Rattle.valve_log.specs.Made.{groupsCounting}
-use Rattle.archive.specs.Archive.{Reading, readingWith, Archive, nothingFiled, file, FiledInOrder, NewsRight}
+use Rattle.valve_log.specs.Made.{groupsCounting, groupsMadeBefore}
+use Rattle.archive.specs.Archive.{Reading, readingWith, Archive, archive, nothingFiled, file, FiledInOrder, NewsRight}
 use Rattle.archive.specs.Faded.{FirstPart}
-use Rattle.journal.specs.Run.{Machine, machine, worldOf, Moves, toldBy, finishedBy, Formatting, Run}
+use Rattle.journal.specs.Run.{Machine, machine, worldOf, Moves, toldBy, finishedBy, Formatting, startingOn, Run}
 use Rattle.journal.specs.Fading.{groupsMadeBy}
 
 -- ---- what is read
@@ -54,10 +55,14 @@ pub data ReadBy (filed : Mark) (m : List ℕ) : Reading → Type 0 where
 
 -- The archive a after the run r, and what it has read last and not yet filed; `since` has the groups that have counted since the reading that it filed last,
 -- or since formatting ended, and `later` those that have counted since the one not yet filed. It reads and files anywhere, also between a cut and the
--- recovery after it. One rule is kept: where `vj_commit` is accepted, `since` is empty.
+-- recovery after it. One rule is kept: where `vj_commit` is accepted, `since` is empty. On a medium taken over, all that was made before the log is filed, and
+-- it first reads and files the whole log, with the mark of zeros.
 pub data FilingsRun : (x : Machine) (h : History) → Run x h → Archive → List (List Entry) → Option Reading → List (List Entry) → Type 0 where
   start : {x y : Machine} (f : Formatting x) (v : Moves x Event.step y) (last : finishedBy x y v ≡ true)
       → FilingsRun (machine (y .medium) (y .state) fresh) noHistory (Run.start x y f v last) nothingFiled [] none []
+  takenOver : {w : World} {h : History} (b : Before w h) (before : List Entry) {z : Reading}
+      → before ++ changesOf (h .log) ≡ changesOf (groupsMadeBefore b) → ReadBy noMark (w .medium) z
+      → FilingsRun (startingOn w) h (Run.takenOver b) (file (archive before [] noMark) z) [] none []
   move : {x y : Machine} {h : History} {r : Run x h} {a : Archive} {since later : List (List Entry)} {p : Option Reading} {e : Event (worldOf x)} (v : Moves x e y)
       → FilingsRun x h r a since p later → (toldBy x y e v ≡ beganCommit → since ≡ [])
       → FilingsRun y (tell h (toldBy x y e v)) (Run.next x y h e r v) a (since ++ groupsCounting h (toldBy x y e v)) p (later ++ groupsCounting h (toldBy x y e v))

@@ -6,7 +6,7 @@ use mathlib.Core.List.{List, [], _∷_, _++_}
 use Prim.Native.Nat.{ℕ, suc, _+_, _-_, _*_, _≤_, _<_}
 use native.Mathlib.Omega.{arith}
 use lib.ListN.{length, length-append}
-use borrow.Author.Tests.{leb-true, leb-false, ltb-true}
+use borrow.Author.Tests.{leb-true, leb-false}
 use Rattle.lists.specs.Needs.{Answer, refused, gives}
 use Rattle.lists.specs.Cells.{Entry, Place, Setting}
 use Rattle.lists.proofs.Laws.{by-cases, true-false, every-at, tests, checked-cases, some-same, same-given}
@@ -17,21 +17,24 @@ use Rattle.flash.proofs.Steps.{program-views}
 use Rattle.flash.proofs.Cuts.{CutViews, cut-erase-views}
 use Rattle.index.specs.Index.{mostValves}
 use Rattle.nodes.specs.Nodes.{live}
-use Rattle.state.specs.State.{Pending, Held, doneFit, basePages, pendingFit, fitWith, bufferedIn}
+use Rattle.state.specs.State.{Pending, Held, basePages, fitWith, bufferedIn}
 use Rattle.recovery.specs.Recovery.{Placed, serialOf, wholes, sort, lastOf, noPage, Group, between, walk, groupsOf, pagesOf, enterPages, Recovery, recoveryWith, base}
 use Rattle.recovery.specs.Recovery.{recover as recoverOf}
-use Rattle.step.specs.Step.{Step, isLast, headAfter, appended, committed, collected, flushed, erasing, programming, appendStep, commitStep, moveStep, collectStep, flushStep, due, stepOf, mediumAfter}
+use Rattle.step.specs.Step.{Step, isLast, headAfter, appended, committed, collected, flushed, erasing, programming, appendStep, commitStep, moveStep, collectStep, flushStep, due, erasedFirst, stepOf, mediumAfter}
 use Rattle.step.proofs.Laws.{first-cases}
 use Rattle.valve_log.specs.History.{UnderWay, committing, History, Told, unchanged, steppedPage}
-use Rattle.valve_log.specs.Reached.{World, world, withState, stepDue, CutOf, Event, called, filled, stepped, sameBytes, cutShort, recovered, happen, Reached}
+use Rattle.valve_log.specs.ValveZero.{stepBefore}
+use Rattle.valve_log.specs.Reached.{World, world, withState, stepDue, CutOf, Event, called, filled, stepped, sameBytes, cutShort, recovered, happen}
+use Rattle.valve_log.specs.Reached.{stepDueBefore, Earlier, happened, Before, Reached}
 use Rattle.valve_log.proofs.Index.{sound-keep, words-keep}
 use Rattle.valve_log.proofs.Views.{one-keeps, one-lost}
 use Rattle.valve_log.proofs.Groups.{lay, lay-length}
 use Rattle.valve_log.proofs.Sound.{Sound, base-is, greatest, outcome, accepts, lost-sound}
-use Rattle.valve_log.proofs.Coupling.{Pend, at-rest, in-append, in-commit, in-collect, in-flush, alive-of, Coupled, pending-fit}
+use Rattle.valve_log.proofs.Coupling.{Pend, at-rest, in-append, in-commit, in-collect, in-flush, alive-of, Coupled, Awaited, awaited, pending-fit}
 use Rattle.valve_log.proofs.Lent.{state-fit}
 use Rattle.valve_log.proofs.Due.{Programs, Erases, Good}
 use Rattle.valve_log.proofs.Events.{Upheld, same-true, there, cut-seen, others, not-whole, block-there, erase-cut, due-good}
+use Rattle.valve_log.proofs.ValveZero.{before-cases, due-before, before-upheld}
 use Rattle.valve_log.proofs.Point3.{reached-upheld}
 use Rattle.valve_log.specs.SinceCommit.{commitEndsNext, commitCounts}
 use Rattle.valve_log.specs.Base.{Rises, BaseTells}
@@ -133,27 +136,37 @@ module _ (v : List View) (s : Held) {log : List (List Entry)} {settings : List S
       })
       (λ z. stays _ _ _ _ (goes-on (length (s .index)) k left a z) (committed-more s k _ z)))
 
-  due-rises : (small : List (List Entry)) (pend : Pending) (u : UnderWay) → Pend v (s .head .serial) ch gs idx pend u → pendingFit v (s .head) (s .index) pend ≡ true
+  due-rises : (small : List (List Entry)) (pend : Pending) (u : UnderWay) → Pend v (s .head .serial) ch gs idx pend u → Awaited v s pend
       → StepRises s u (due v s small pend)
-  unfolding due pendingFit doneFit
+  unfolding due Awaited
   due-rises small pend u at-rest q = refused-rises s u 9
   due-rises small pend u in-flush q =
       unfold flushStep in programming-rises v s u _ _ _ _ (stays _ _ _ _ (unfold commitEndsNext in refl) (flushed-base s small _))
   due-rises small pend u (in-append {es = es} {ps = ps} f t a c op pr) q =
       unfold appendStep in programming-rises v s u _ _ _ _ (stays _ _ _ _ (unfold commitEndsNext in refl) (appended-base s es ps _))
   due-rises small pend u (in-commit {k = k} {left = left} f ps pre n a c sp op al ag) q =
-      let fewer : k < basePages (length (s .index)) = ltb-true k (basePages (length (s .index))) (every-at 1 _ q) in
-      commit-rises k left (rw indices a) fewer (greater S f k (s .head .serial) ps pre serials n c sp ag (rw indices at fewer))
+      commit-rises k left (rw indices a) q (greater S f k (s .head .serial) ps pre serials n c sp ag (rw indices at q))
   due-rises small pend u (in-collect {b = c}) q = collect-rises u c (live (s .index) c) (unfold commitEndsNext in refl)
+
+first-rises : (v : List View) (s : Held) (gs : List (List Entry)) (h : History) → Coupled v (some s) h → Awaited v s (s .pending)
+    → StepRises s (h .underWay) (erasedFirst v s (due v s gs (s .pending)))
+first-rises v s gs h c q =
+    let A = alive-of (c .memory) in
+    first-cases (StepRises s (h .underWay)) v s (due v s gs (s .pending)) (λ r. unfold StepRises erasing in refl)
+    (λ r. due-rises v s (c .medium) (A .serials) (A .bases) (A .indices) gs (s .pending) (h .underWay) (A .pends) q)
 
 step-rises : (n : ℕ) (v : List View) (s : Held) (bs : List ℕ) (h : History) → Coupled v (some s) h → StepRises s (h .underWay) (stepOf n v s bs)
 unfolding stepOf tests
 step-rises n v s bs h c =
-    let A = alive-of (c .memory) in
     checked-cases (StepRises s (h .underWay)) _ _ (refused-rises s (h .underWay))
     (λ e. let w : fitWith v s bs ≡ true = every-at 1 _ e in
-    first-cases (StepRises s (h .underWay)) v s (due v s (bufferedIn bs) (s .pending)) (λ r. unfold StepRises erasing in refl)
-    (λ r. due-rises v s (c .medium) (A .serials) (A .bases) (A .indices) (bufferedIn bs) (s .pending) (h .underWay) (A .pends) (pending-fit v s (state-fit v s bs w))))
+    first-rises v s (bufferedIn bs) h c (awaited v s (s .pending) (pending-fit v s (state-fit v s bs w))))
+
+-- and the step of the program as it was before Paper 8
+before-rises : (n : ℕ) (v : List View) (s : Held) (bs : List ℕ) (h : History) → Coupled v (some s) h
+    → StepRises s (h .underWay) (stepBefore n v s bs)
+before-rises n v s bs h c =
+    before-cases (StepRises s (h .underWay)) n v s bs (refused-rises s (h .underWay)) (λ F A. first-rises v s (bufferedIn bs) h c A)
 
 -- ---- the base that recovery finds
 
@@ -255,6 +268,30 @@ happen-rises m (some s) bs h (Event.cutInside left c) U =
 
 pub base-rises : (w : World) (h : History) → Reached w h → (e : Event w) → From (w .medium) (commitCounts h (happen w e .told)) (happen w e .after .medium)
 base-rises w h r e = happen-rises (w .medium) (w .state) (w .buffer) h e (reached-upheld w h r)
+
+-- the same of the program as it was before Paper 8
+happened-rises : (m : List ℕ) (s : Option Held) (bs : List ℕ) (h : History) (e : Earlier (world m s bs)) → Upheld (world m s bs) h
+    → From m (commitCounts h (happened (world m s bs) e .told)) (happened (world m s bs) e .after .medium)
+unfolding happened withState stepDueBefore commitCounts
+happened-rises m s bs h (Earlier.same e) U = happen-rises m s bs h e U
+happened-rises m none bs h (Earlier.append ks ws a b) U = kept m m _ refl refl
+happened-rises m (some s) bs h (Earlier.append ks ws a b) U = called-rises (world m (some s) bs) h _ _ refl
+happened-rises m none bs h (Earlier.buffer ks ws a b) U = kept m m _ refl refl
+happened-rises m (some s) bs h (Earlier.buffer ks ws a b) U = filled-rises (world m (some s) bs) h _ _ refl
+happened-rises m none bs h Earlier.flush U = kept m m _ refl refl
+happened-rises m (some s) bs h Earlier.flush U = called-rises (world m (some s) bs) h _ _ refl
+happened-rises m none bs h Earlier.step U = unfold stepped in kept m m _ refl refl
+happened-rises m (some s) bs h Earlier.step U =
+    stepped-rises m s bs h U (stepBefore (length m) (views m) s bs) (due-before m s bs h U)
+    (before-rises (length m) (views m) s bs h (U .coupled))
+happened-rises m none bs h (Earlier.cutInside left c) U = absurd (unfold CutOf in c)
+happened-rises m (some s) bs h (Earlier.cutInside left c) U =
+    cut-rises m s bs h U (stepBefore (length m) (views m) s bs) (due-before m s bs h U)
+    (before-rises (length m) (views m) s bs h (U .coupled)) left c
+
+pub base-rises-before : (w : World) (h : History) → Before w h → (e : Earlier w)
+    → From (w .medium) (commitCounts h (happened w e .told)) (happened w e .after .medium)
+base-rises-before w h b e = happened-rises (w .medium) (w .state) (w .buffer) h e (before-upheld w h b)
 
 -- the head of the state that recovery gives
 record HeadFound (v : List View) (s : Held) : Type 0 where

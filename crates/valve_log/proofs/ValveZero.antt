@@ -64,7 +64,7 @@ fits-before : (v : List View) (s : Held) → Fits v (starting s idle) → Fits v
 fits-before v s F = record { size = F .size; count = F .count; rise = F .rise; valve = F .valve; address = F .address; serial = F .serial }
 
 -- the step is refused, or it is the one due, and the state was fit
-before-cases : (P : Answer Step → Type 0) (n : ℕ) (v : List View) (s : Held) (b : List ℕ) → ((k : ℕ) → P (refused k))
+pub before-cases : (P : Answer Step → Type 0) (n : ℕ) (v : List View) (s : Held) (b : List ℕ) → ((k : ℕ) → P (refused k))
     → (Fits v s → Awaited v s (s .pending) → P (erasedFirst v s (due v s (bufferedIn b) (s .pending)))) → P (stepBefore n v s b)
 unfolding stepBefore
 before-cases P n v s b r g =
