@@ -591,7 +591,7 @@ fn found_out(language: Language, wrong: &[Wrong]) {
 #[rustfmt::skip]
 const WRONG_IN_C: [Wrong; 13] = [
     ("filed after the commit", "the changes", &[
-        ("/* Files the settings:", "static void commit(const char *, const News *);\n/* Files the settings:"),
+        ("/* Files the settings:", "static void commit(const char *, const VjNews *);\n/* Files the settings:"),
         ("    if (ftruncate(csv,", "    commit(name, found);\n    if (ftruncate(csv,"),
         ("    commit(name, &found);\n", ""),
     ]),
