@@ -141,10 +141,17 @@ def show_text(modules, order, seen):
 
 
 def main():
-    names = [a for a in sys.argv[1:] if a != "--text"]
-    crate, module, name = (names or ["valve_log.Reached.Point3"])[0].split(".")
+    names = [a for a in sys.argv[1:] if a != "--text"] or ["valve_log.Reached.Point3"]
+    if "--help" in names or "-h" in names:
+        print(__doc__)
+        return
+    if len(names) > 1 or names[0].count(".") != 2:
+        sys.exit(__doc__)
+    crate, module, name = names[0].split(".")
     order = list(layers())
     modules = {key: Module("crates/{}/specs/{}.antt".format(*key.split("."))) for key in order}
+    if name not in getattr(modules.get(f"{crate}.{module}"), "definitions", {}):
+        sys.exit(f"reach: crates/{crate}/specs/{module}.antt has no definition {name}")
     seen = reached(modules, (f"{crate}.{module}", name))
     if "--text" in sys.argv:
         show_text(modules, order, seen)
