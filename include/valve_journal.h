@@ -50,7 +50,7 @@ extern "C" {
 
 /* The version of this interface: raised by one where a library that is given out has a call, a type, a constant or a meaning of a number other
  * than the one given out before it. The archive is built from the same commit as this file. */
-#define VJ_INTERFACE_VERSION 2
+#define VJ_INTERFACE_VERSION 3
 
 /* The version of the layout, that is of what stands on a page: raised by one by each change after which a library before it refuses or
  * misreads pages that are written now. 1: kinds 1 to 3. 2: kind 4 too, the page that a flush programs. Every version reads the pages of
@@ -274,8 +274,8 @@ typedef struct VjPick {
 /* What vj_survey answers. */
 typedef struct VjSurvey {
     uint8_t number;                      /* 0, or the number of the refusal */
-    uint16_t counts[3 * VJ_MOST_BLOCKS]; /* for block b from 3 x b on: its whole, clean and spoilt pages; 0 past the last block; on a
-                                          * refusal they mean nothing */
+    uint16_t counts[3 * VJ_MOST_BLOCKS]; /* for block b from 3 x b on: its whole, clean and spoilt pages; 0 past the last block, and
+                                          * all of them on a refusal */
 } VjSurvey;
 
 /* What vj_available answers. */
@@ -346,9 +346,11 @@ VjPlace vj_reader(const uint8_t *medium, size_t medium_length);
 VjChange vj_change(const uint8_t *medium, size_t medium_length, VjPlace place);
 
 /* From which change on the log is new to an archive: base, serial and count are the mark that it filed last, as vj_news gave it then, or zeros where
- * nothing was filed since the medium was formatted. The changes that vj_log gives from number `first` on are those that were not filed. Every mark is
- * answered. Refuses 1 to 6; 28 where the next serial is smaller than the filed one, so that the medium shows an earlier moment or is another one; and 29
- * where it is not, but base and count cannot come after those filed. A medium that was formatted, and had the same changes made again, cannot be told. */
+ * nothing was filed since the medium was formatted. Where every commit since then came after a filing of the whole log (vj_commit), the changes from place
+ * `first` of vj_log's lists on are those that were not filed. Every mark is answered. Refuses 1 to 6; 28 where the next serial is smaller than the filed
+ * one: the medium shows an earlier moment, was formatted since, or is another one; and 29 where it is not, but base, next serial and count cannot come after
+ * those filed: formatted since, or another one. The caller compares what the call is not given: the medium's length, and the changes before `first` with
+ * those filed. A medium that was formatted, and had the same changes made again, cannot be told from the one before (docs/USING.md). */
 VjNews vj_news(const uint8_t *medium, size_t medium_length, uint64_t base, uint64_t serial, size_t count);
 
 /* What a span of the log did: for each valve that the groups from number `first` up to, not including, number `second` touch, ascending, its

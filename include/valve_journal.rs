@@ -17,7 +17,7 @@ use std::fmt;
 use std::mem::size_of;
 
 /// The versions of the interface and of the layout.
-pub const INTERFACE_VERSION: u32 = 2;
+pub const INTERFACE_VERSION: u32 = 3;
 pub const LAYOUT_VERSION: u32 = 2;
 
 // Sizes and limits, as the header explains them.
@@ -303,7 +303,8 @@ pub struct News {
     pub mark: Mark,
 }
 
-/// From which change on the log is new to an archive that filed this mark last. A medium that shows an earlier moment, or is another one, is refused.
+/// From which change on the log is new to an archive that filed this mark last. A medium that shows an earlier moment, was formatted since, or is another
+/// one, is refused where base, next serial and count tell it; the caller compares the medium's length, and the changes before `first` with those filed.
 pub fn news(medium: &[u8], filed: Mark) -> Result<News, Refusal> {
     let r = unsafe { vj_news(medium.as_ptr(), medium.len(), filed.base, filed.serial, filed.count) };
     answer(r.number, News { first: r.first, mark: Mark { base: r.base, serial: r.serial, count: r.count } })

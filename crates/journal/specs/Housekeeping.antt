@@ -38,7 +38,8 @@ pub data Stage : Type 0 where
 
 -- Whatever the calls answer on the way, of which nothing is known but the promise: `next` names the append (1), a commit (2) or a collection (3),
 -- the call named is accepted, and so is each of its steps until one says that it is finished; then `next` is asked again, unless it was the append
--- of the group ks ws. Then the log of the run's plain history ends with that very group. The numbers count the commits and the collections.
+-- of the group ks ws. Then the log of the run's plain history ends with that very group; by point 3 of the code every history of a run that leads there has
+-- this log. The numbers count the commits and the collections.
 pub data LetsIn (ks ws : List ℕ) : ℕ → ℕ → Stage → Machine → Type 0 where
   append : (m : List ℕ) (s : State) (b : List ℕ) → ((r : NextOperation) → Names m s b ks ws true r → r ≡ operationNamed 1 0)
       → ((r : Begun) → Appends m s b ks ws r → r .number ≡ 0) → ((r : Begun) → Appends m s b ks ws r → LetsIn ks ws 0 0 (stepping inLog) (machine m (some (r .state)) b))

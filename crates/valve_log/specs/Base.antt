@@ -1,5 +1,5 @@
--- What the base's first serial and the next serial tell: "A new base has a greater first serial than any before it, and the base that recovery finds changes
--- only when a commit counts."
+-- What the base's first serial and the next serial tell an archive: the base that recovery finds changes only where a commit counts, and a new one is greater
+-- than any before it (docs/USING.md, "The archive's morning").
 use mathlib.Core.Path.{_≡_}
 use mathlib.Core.Bool.{Bool, true, false}
 use mathlib.Core.List.{List}
@@ -14,8 +14,8 @@ use Rattle.valve_log.specs.History.{History}
 use Rattle.valve_log.specs.Reached.{World, Event, happen, Reached}
 use Rattle.valve_log.specs.SinceCommit.{commitCounts}
 
--- A base before an event and after it, and the next serial before it. Where no commit counts the base stays. Where one counts it is greater, and starts
--- with the commit's first page: at the next serial, or with the pages that the commit had already written, which are at most seven.
+-- A base before an event and after it, and the next serial before it. Where no commit counts the base stays. Where one counts it is greater, and at most
+-- seven smaller than that next serial: the pages that the commit had written before its last are at most seven.
 pub record Rises (counts : Bool) (before serial after : ℕ) : Type 0 where
   pub same : counts ≡ false → after ≡ before
   pub greater : counts ≡ true → before < after
