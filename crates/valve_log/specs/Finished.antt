@@ -40,7 +40,7 @@ pub record HoldsValveZero (word : ℕ) : Type 0 where
   pub world : World
   pub before : Before world (history (cell 0 word ∷ []) ((cell 0 word ∷ []) ∷ []) nothing [])
 
--- "Media that hold it": each word, on each medium of four blocks
+-- "Media that hold it": each word, whatever bytes stood on four blocks
 unfoldable pub ValveZeroReached : Type 0
 ValveZeroReached = (m : List ℕ) → Bytes m → length m ≡ 16384 → (word : ℕ) → word < 2 ^ 64 → HoldsValveZero word
 
