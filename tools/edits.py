@@ -20,7 +20,7 @@ HEADING = "## What is ruled out"
 TOKEN = re.compile(r"`(\w+)`|`[^`]*`|(?<!\w)(\w*_\w*)(?!\w)")
 # What a first error says where a fact no longer holds.
 FACTS = re.compile(r"no proof of|the two types|expected type|does not follow|it is not proved that|give a proof of that"
-                   r"|list the missing equation|lands at index|the two sides differ")
+                   r"|list the missing equation|lands at index|the two sides differ|does not hold")
 # What it says where an edit changed the shape of a proof, each with the words for it. The others are read by a person.
 SHAPES = [
     ("a need that is gone", re.compile(r"no `Need-")),
