@@ -35,6 +35,4 @@ archive-examples =
       fewer = refl;
       there-before = refl;
       under-way = refl;
-      formatted-old-mark = refl;
-      formatted-new-mark = refl;
     }

@@ -50,7 +50,9 @@ pub record ArchiveExamples : Type 0 where
   -- the first morning, before the commit
   pub first : readThen noMark 2 ≡ some (readingWith move move (mark 1 3 1))
   -- The power failed before the commit counted: nothing is new. The commit counted, and the same group was made once more: it is new. Log and settings are the
-  -- same on both mornings, so that comparing these would not tell.
+  -- same on both mornings, so that comparing these would not tell. Formatted, and the same group appended again, the medium is the same byte for byte
+  -- (`valve_log` Finished: `FormattedAlike`): with the mark from before the formatting nothing is new, as in `again`, though the group was made again; with a
+  -- new mark it is, as in `first`.
   pub again : readThen (mark 1 3 1) 2 ≡ some (readingWith [] move (mark 1 3 1))
   pub next : readThen (mark 1 3 1) 4 ≡ some (readingWith move move (mark 3 5 1))
   -- one group more on the same base
@@ -65,10 +67,6 @@ pub record ArchiveExamples : Type 0 where
   pub there-before : compared (mark 3 20 9) (mark 12 20 9) ≡ refusedNews 29
   -- a commit of two pages was under way at the reading that was filed, its first page with serial 9 written; then it counted
   pub under-way : compared (mark 1 10 3) (mark 9 11 0) ≡ newsFrom 0 (mark 9 11 0)
-  -- Formatted, and the same group appended again, the medium is the same byte for byte (`valve_log` Finished: `FormattedAlike`). With the mark from before the
-  -- formatting nothing is new, though the group was made again; with a new mark it is.
-  pub formatted-old-mark : readThen (mark 1 3 1) 2 ≡ some (readingWith [] move (mark 1 3 1))
-  pub formatted-new-mark : readThen noMark 2 ≡ some (readingWith move move (mark 1 3 1))
 
 -- A list with a commit that comes too early: on a formatted medium of 4 blocks the group is appended, and a commit is begun though nothing is filed. Its next
 -- step counts. What is read then has nothing new; filed, it is not all that was made.

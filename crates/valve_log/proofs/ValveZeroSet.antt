@@ -3,7 +3,7 @@ use mathlib.Core.Path.{_≡_, refl, ap, subst, _∙_}
 use mathlib.Core.Bool.{Bool, true}
 use mathlib.Core.Option.{Option, some}
 use mathlib.Core.List.{List, [], _∷_}
-use Prim.Native.Nat.{ℕ, zero, suc, _/_, _^_, _<_}
+use Prim.Native.Nat.{ℕ, zero, suc, _/_, _^_, _≤_, _<_}
 use native.Mathlib.Omega.{arith}
 use lib.ListN.{length, getD, replicate, length-replicate}
 use Rattle.lists.specs.Lists.{all, every, valueOr, allBelow, oneIf, countBelow, Below}
@@ -15,6 +15,7 @@ use Rattle.page.specs.Layout.{cleanBytes}
 use Rattle.page.specs.Buffer.{gathered}
 use Rattle.flash.specs.Medium.{views, seen, whollyClean, programmed}
 use Rattle.flash.proofs.Laws.{length-views}
+use Rattle.flash.proofs.Steps.{program-length}
 use Rattle.index.specs.Index.{put, assign, assignAll, risingFrom, rising, within}
 use Rattle.blocks.specs.Blocks.{sizeOk, spare, available, pageDue}
 use Rattle.state.specs.State.{Held, append, headFit, indexFit, doneFit, pendingFit, fit, isIdle, groupsFit, bufferFit, fitWith, bufferedIn}
@@ -55,6 +56,10 @@ module _ (word : ℕ) (e : List Bool) where
       serialsFor entryAllowedBefore allowedBefore isLast programming appendStep due programsDue needsErase erasedFirst
   steps = refl
 
+one-entry : (word : ℕ) → length (groupPage 1 (zeroTo word) 0 2 .entries) ≤ 24
+unfolding groupPage
+one-entry word = omega arith
+
 -- ---- the list
 
 -- numbers below a bound, of which there is one
@@ -94,7 +99,11 @@ module _ (m : List ℕ) (e : List Bool) (word : ℕ) (small : word < 2 ^ 64) (lo
       subst (λ (t : Moment). Before (t .after) (tell noHistory (t .told))) appended-is (Before.next first noHistory appending b) in
       let b₂ = subst (λ (t : Moment). Before (t .after) (tell (tell noHistory (beganAppend (zeroTo word))) (t .told))) stepped-is
       (Before.next (world m (some (begun word e)) fresh) (tell noHistory (beganAppend (zeroTo word))) Earlier.step b₁) in
-      record { world = _; before = subst (Before _) told-is b₂ }
+      record {
+        world = _;
+        four-blocks = program-length m 1 (groupPage 1 (zeroTo word) 0 2) (omega (arith, long)) (one-entry word) ∙ long;
+        before = subst (Before _) told-is b₂;
+      }
 
 size-of : (n : ℕ) → n ≡ 16384 → sizeOk n ≡ true
 unfolding sizeOk every

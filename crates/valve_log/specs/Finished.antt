@@ -38,6 +38,7 @@ FormattingFinishes = (m : List ℕ) → Bytes m → sizeOk (length m) ≡ true �
 -- is under way or buffered. The list of point 3, and a run of the code, start on what it left (`takenOver`).
 pub record HoldsValveZero (word : ℕ) : Type 0 where
   pub world : World
+  pub four-blocks : length (world .medium) ≡ 16384
   pub before : Before world (history (cell 0 word ∷ []) ((cell 0 word ∷ []) ∷ []) nothing [])
 
 -- "Media that hold it": each word, whatever bytes stood on four blocks
