@@ -1,0 +1,49 @@
+// Text put into a lent list of bytes.
+ghost use Prim.Native.Nat.{min};
+ghost use mathlib.Core.Path.{_≡_};
+ghost use mathlib.Core.List.{_++_};
+ghost use Rattle.text.specs.Text.{ascii, decimal, Puts};
+
+// The lesser of two lengths.
+fn least(a: usize, b: usize) -> usize
+    ensures { λ r. ⌜ r ≡ min a b ⌝ }
+{
+    if a < b {
+        return a;
+    }
+    b
+}
+
+// Bytes behind the first n bytes of a list, as far as the list is long; the answer is how many bytes of text are there then.
+pub fn put(out: &mut [u8], n: usize, s: &[u8]) -> usize
+    ensures { λ r. ⌜ Puts (now (out .entry)) n (now (s .entry)) (now (out .exit)) r ⌝ }
+{
+    if out.len() <= n {
+        return n;
+    }
+    let k = least(s.len(), out.len() - n);
+    let mut i: usize = 0;
+    while i < k {
+        out[n + i] = s[i];
+        i += 1;
+    }
+    n + k
+}
+
+// A number in decimal, behind them.
+pub fn number(out: &mut [u8], n: usize, x: u64) -> usize
+    ensures { λ r. ⌜ Puts (now (out .entry)) n (decimal x) (now (out .exit)) r ⌝ }
+{
+    let mut digits = [0u8; 20];
+    let k = io::decimal(x, &mut digits);
+    put(out, n, &digits[..k])
+}
+
+// A word, a number and the end of a line.
+pub fn line(out: &mut [u8], n: usize, word: &[u8], x: u64) -> usize
+    ensures { λ r. ⌜ Puts (now (out .entry)) n (now (word .entry) ++ decimal x ++ ascii "\n") (now (out .exit)) r ⌝ }
+{
+    let a = put(out, n, word);
+    let b = number(out, a, x);
+    put(out, b, b"\n")
+}
