@@ -1,17 +1,15 @@
 -- Laws of text put into a lent list, in the shapes that the code's proofs ask.
 use mathlib.Core.Path.{_≡_, refl, sym, ap, ap₂, _∙_}
-use mathlib.Core.Bool.{Bool, true, false, cond}
 use mathlib.Core.List.{List, [], _∷_, _++_, append-nil, append-assoc}
 use Prim.Native.Nat.{ℕ, zero, suc, _+_, _-_, _*_, _/_, _%_, _^_, _≤_, _<_, min}
 use native.Mathlib.Omega.{arith}
 use native.Mathlib.Nat.{mod-eq-of-lt, pow-succ', one-le-pow, pow-le-pow-right, le-trans}
 use native.Mathlib.Decide.{decLe}
-use lib.ListN.{length, take, set, getD, length-append, length-set, length-take}
-use lib.Seq.{length-take-le, take-all, take-suc, take-append-seam, take-append-le, take-append-add, take-suc-set, take-take}
-use lib.Dec.{ltb}
+use lib.ListN.{length, take, set, getD, length-set}
+use lib.Seq.{length-take-le, take-all, take-suc, take-append-seam, take-append-add, take-suc-set}
 use borrow.Author.Tests.{lt-ltb, le-ltb}
 use Rattle.io.specs.Digits.{glyph, digits, Fewest}
-use Rattle.text.specs.Text.{ascii, decimalWithin, decimal, Puts, Holds}
+use Rattle.text.specs.Text.{decimalWithin, decimal, Puts, Holds}
 
 -- ---- the loop that copies: i bytes are there
 
@@ -32,7 +30,8 @@ module _ (out₀ : List ℕ) (n : ℕ) (s : List ℕ) (k : ℕ) (e : k ≡ min (
   pub copy-room : n < length out₀ → (out : List ℕ) (i : ℕ) → i < k → Copied out₀ n s k out i → n + i < length out
   copy-room l out i h c = let q = c .long in omega arith
 
-  pub copy-next : n < length out₀ → (out : List ℕ) (i : ℕ) → i < k → Copied out₀ n s k out i → Copied out₀ n s k (set out (n + i) (getD s i 0)) (i + 1)
+  pub copy-next : n < length out₀ → (out : List ℕ) (i : ℕ) → i < k → Copied out₀ n s k out i
+      → Copied out₀ n s k (set out (n + i) (getD s i 0)) (i + 1)
   copy-next l out i h c =
       let z : n + (i + 1) ≡ suc (n + i) = omega arith in
       let y : i + 1 ≡ suc i = omega arith in
@@ -55,7 +54,11 @@ module _ (out₀ : List ℕ) (n : ℕ) (s : List ℕ) (k : ℕ) (e : k ≡ min (
       let t : take (length out₀) (take n out₀ ++ s) ≡ take n out₀ ++ take (length out₀ - n) s =
       ap (λ (j : ℕ). take j (take n out₀ ++ s)) y ∙ take-append-add (take n out₀) s (length out₀ - n) in
       let w : take (n + k) out ≡ take n out₀ ++ take k s = rw z at (c .so) in
-      record { long = c .long; so = w ∙ ap (λ (u : List ℕ). take n out₀ ++ u) (cut (decLe (length s) (length out₀ - n))) ∙ sym t; within = λ _. omega arith }
+      record {
+        long = c .long;
+        so = w ∙ ap (λ (u : List ℕ). take n out₀ ++ u) (cut (decLe (length s) (length out₀ - n))) ∙ sym t;
+        within = λ _. omega arith;
+      }
     where
       cut : Dec (length s ≤ length out₀ - n) → take k s ≡ take (length out₀ - n) s
       cut (yes p) = let q : length s ≤ k = omega arith in take-all k s q ∙ sym (take-all (length out₀ - n) s p)
@@ -64,7 +67,11 @@ module _ (out₀ : List ℕ) (n : ℕ) (s : List ℕ) (k : ℕ) (e : k ≡ min (
 pub copy-none : (out : List ℕ) (n : ℕ) (s : List ℕ) → length out ≤ n → Puts out n s out n
 copy-none out n s h =
     let a = take-all n out h in
-    record { long = refl; so = a ∙ sym (take-append-seam out s) ∙ ap (λ (t : List ℕ). take (length out) (t ++ s)) (sym a); within = λ k. k }
+    record {
+      long = refl;
+      so = a ∙ sym (take-append-seam out s) ∙ ap (λ (t : List ℕ). take (length out) (t ++ s)) (sym a);
+      within = λ k. k;
+    }
 
 -- ---- one text behind the other
 
@@ -73,7 +80,8 @@ take-cut zero xs ys = refl
 take-cut (suc k) [] ys = refl
 take-cut (suc k) (x ∷ xs) ys = ap (λ (t : List ℕ). x ∷ t) (take-cut k xs ys)
 
-pub puts-then : {out : List ℕ} {n : ℕ} {x out₁ : List ℕ} {r₁ : ℕ} {y out₂ : List ℕ} {r₂ : ℕ} → Puts out n x out₁ r₁ → Puts out₁ r₁ y out₂ r₂ → Puts out n (x ++ y) out₂ r₂
+pub puts-then : {out : List ℕ} {n : ℕ} {x out₁ : List ℕ} {r₁ : ℕ} {y out₂ : List ℕ} {r₂ : ℕ} → Puts out n x out₁ r₁
+    → Puts out₁ r₁ y out₂ r₂ → Puts out n (x ++ y) out₂ r₂
 puts-then {out} {n} {x} {out₁} {r₁} {y} {out₂} {r₂} p q =
     record {
       long = q .long ∙ p .long;
@@ -82,7 +90,12 @@ puts-then {out} {n} {x} {out₁} {r₁} {y} {out₂} {r₂} p q =
           ∙ ap₂ (λ (k : ℕ) (t : List ℕ). take k (t ++ y)) (p .long) (p .so)
           ∙ take-cut (length out) (take n out ++ x) y
           ∙ ap (take (length out)) (append-assoc (take n out) x y);
-      within = λ h. let a = p .long in let b = p .within h in let k : r₁ ≤ length out₁ = omega arith in let l = q .within k in omega arith;
+      within = λ h.
+          let a = p .long in
+          let b = p .within h in
+          let k : r₁ ≤ length out₁ = omega arith in
+          let l = q .within k in
+          omega arith;
     }
 
 pub puts-same : {out : List ℕ} {n : ℕ} {x y out′ : List ℕ} {r : ℕ} → x ≡ y → Puts out n x out′ r → Puts out n y out′ r
@@ -114,7 +127,8 @@ digits-are (suc k) (suc f) n h l m =
     let b : 10 ≤ n = omega arith in
     let c : n / 10 < 10 ^ suc k = omega arith in
     let d : 10 ^ k ≤ n / 10 = omega arith in
-    ap₂ (λ (t : List ℕ) (u : ℕ). t ++ (u ∷ [])) (digits-are k f (n / 10) (omega arith) c (λ _. d)) (glyph-is n) ∙ sym (within-more f n b)
+    ap₂ (λ (t : List ℕ) (u : ℕ). t ++ (u ∷ [])) (digits-are k f (n / 10) (omega arith) c (λ _. d)) (glyph-is n)
+    ∙ sym (within-more f n b)
 
 -- no number of 64 bits takes more than 20 digits
 twenty : (x k : ℕ) → x < 2 ^ 64 → (0 < k → 10 ^ k ≤ x) → suc k ≤ 20
@@ -136,8 +150,8 @@ number-is x (suc k) d l f g =
     let b : 0 < k → 10 ^ k ≤ x = λ h. rw z at (f .2 (omega arith)) in
     g ∙ digits-are k 20 x (twenty x k l b) (f .1) b
 
-pub puts-number : {out : List ℕ} {n : ℕ} (d : List ℕ) {out′ : List ℕ} {r k x : ℕ} → x < 2 ^ 64 → Fewest 10 1 x k → take k d ≡ digits 10 k x → Puts out n (take k d) out′ r
-    → Puts out n (decimal x) out′ r
+pub puts-number : {out : List ℕ} {n : ℕ} (d : List ℕ) {out′ : List ℕ} {r k x : ℕ} → x < 2 ^ 64 → Fewest 10 1 x k
+    → take k d ≡ digits 10 k x → Puts out n (take k d) out′ r → Puts out n (decimal x) out′ r
 puts-number d {k = k} {x = x} l f g p = puts-same (number-is x k d l f g) p
 
 -- ---- a text put at the front, where there is room for all of it
