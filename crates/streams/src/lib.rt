@@ -1,9 +1,8 @@
 // Standard input and standard output, and what is told on standard error where they fail.
-ghost use Prim.Native.Nat.{_+_, _≤_};
+ghost use Prim.Native.Nat.{_≤_};
 ghost use mathlib.Core.Path.{_≡_};
-ghost use mathlib.Core.Bool.{true, false};
 ghost use lib.ListN.{length};
-ghost use Rattle.streams.specs.Streams.{Got};
+ghost use Rattle.streams.specs.Streams.{Got, Moved, afterRead};
 
 // What was read: how many bytes; none where a read failed.
 pub struct Input {
@@ -11,67 +10,153 @@ pub struct Input {
     pub count: usize,
 }
 
-// One read into the bytes from place `at` on: what it answered.
-fn read_at(buf: &mut [u8], at: usize) -> isize
+// What was read so far, and whether reading is over.
+struct Reading {
+    over: bool,
+    input: Input,
+}
+
+// How often in a row a read or a write that a signal interrupts is made again before it counts as failed.
+const AGAIN: usize = 1000;
+
+// Whether a call that gave this answer was interrupted by a signal before it moved a byte.
+fn interrupted(answer: isize) -> bool {
+    if 0 <= answer {
+        return false;
+    }
+    os::errno() == libc::EINTR
+}
+
+// How many bytes from place `at` on a call moved that gave this answer.
+fn moved(bytes: &[u8], at: usize, answer: isize) -> usize
+    requires { ⌜ at ≤ length (now bytes) ⌝ }
+    ensures { λ r. ⌜ Moved (length (now (bytes .entry))) at answer r ⌝ }
+{
+    io::count(answer, &bytes[at..])
+}
+
+// One read into the bytes from place `at` on: its answer.
+fn read_once(buf: &mut [u8], at: usize) -> isize
     requires { ⌜ at ≤ length (now buf) ⌝ }
 {
     libc::read(libc::STDIN_FILENO, &mut buf[at..])
 }
 
-// How many bytes that is.
-fn taken(buf: &[u8], at: usize, got: isize) -> usize
+// The same, made again where a signal interrupts it.
+fn read_some(buf: &mut [u8], at: usize) -> isize
     requires { ⌜ at ≤ length (now buf) ⌝ }
-    ensures { λ r. ⌜ at + r ≤ length (now (buf .entry)) ⌝ }
 {
-    io::count(got, &buf[at..])
+    let mut left: usize = AGAIN;
+    while 0 < left {
+        let answer = read_once(buf, at);
+        if !interrupted(answer) {
+            return answer;
+        }
+        left -= 1;
+    }
+    read_once(buf, at)
 }
 
-// A read failed: told on standard error.
-fn read_failed() -> Input
-    ensures { λ r. ⌜ r ≡ record { failed = true; count = 0 } ⌝ }
+// How reading stands after `done` bytes and a read of more that gave this answer.
+fn after_read(buf: &[u8], done: usize, answer: isize) -> Reading
+    requires { ⌜ done ≤ length (now buf) ⌝ }
+    ensures { λ r. ⌜ r ≡ afterRead (length (now (buf .entry))) done answer ⌝ }
 {
-    os::fail(b"standard input");
-    Input {
-        failed: true,
-        count: 0,
+    if answer < 0 {
+        return Reading {
+            over: true,
+            input: Input {
+                failed: true,
+                count: 0,
+            },
+        };
+    }
+    let more = moved(buf, done, answer);
+    Reading {
+        over: more == 0,
+        input: Input {
+            failed: false,
+            count: done + more,
+        },
     }
 }
 
-// So many bytes were read.
-fn read_so(count: usize) -> Input
-    ensures { λ r. ⌜ r ≡ record { failed = false; count = count } ⌝ }
+// What was read; that a read failed is told on standard error, with the reason.
+fn told(input: Input) -> Input
+    ensures { λ r. ⌜ r ≡ input ⌝ }
 {
-    Input {
-        failed: false,
-        count: count,
+    if input.failed {
+        os::fail(b"cannot read standard input");
     }
+    input
 }
 
-// Standard input to its end, or as much of it as the list is long. A read that fails is not taken for the end: it is told on standard error, and the answer
-// says so.
+// Standard input to its end, or as much of it as the list is long. A read that fails is not taken for the end: it is told on standard
+// error, with the reason, and the answer says so.
 pub fn read(buf: &mut [u8]) -> Input
     ensures { λ r. ⌜ Got (now (buf .exit)) r ⌝ }
 {
     let mut done: usize = 0;
     while done < buf.len() {
-        let got = read_at(buf, done);
-        if got < 0 {
-            return read_failed();
+        let answer = read_some(buf, done);
+        let r = after_read(buf, done, answer);
+        let input = r.input;
+        if r.over {
+            return told(input);
         }
-        let more = taken(buf, done, got);
-        if more == 0 {
-            return read_so(done);
-        }
-        done += more;
+        done = input.count;
     }
-    read_so(done)
+    Input {
+        failed: false,
+        count: done,
+    }
 }
 
-// Bytes on standard output, or, where not all of them could be written, that is told on standard error; whether they were.
+// One write of the bytes from place `at` on: its answer.
+fn write_once(text: &[u8], at: usize) -> isize
+    requires { ⌜ at ≤ length (now text) ⌝ }
+{
+    libc::write(libc::STDOUT_FILENO, &text[at..])
+}
+
+// The same, made again where a signal interrupts it.
+fn write_some(text: &[u8], at: usize) -> isize
+    requires { ⌜ at ≤ length (now text) ⌝ }
+{
+    let mut left: usize = AGAIN;
+    while 0 < left {
+        let answer = write_once(text, at);
+        if !interrupted(answer) {
+            return answer;
+        }
+        left -= 1;
+    }
+    write_once(text, at)
+}
+
+// A write failed, or took no byte: told on standard error, with the reason where there is one.
+fn write_failed(answer: isize) {
+    if answer < 0 {
+        os::fail(b"cannot write standard output");
+        return;
+    }
+    io::write_all(
+        libc::STDERR_FILENO,
+        b"cannot write standard output: it takes no byte\n",
+    );
+}
+
+// Bytes on standard output; whether all of them were written. Where not, that is told on standard error.
 pub fn write(text: &[u8]) -> bool {
-    if !io::write_all(libc::STDOUT_FILENO, text) {
-        os::fail(b"standard output");
-        return false;
+    let mut done: usize = 0;
+    while done < text.len() {
+        let answer = write_some(text, done);
+        let more = moved(text, done, answer);
+        if more == 0 {
+            write_failed(answer);
+            return false;
+        }
+        done += more;
     }
     true
 }
