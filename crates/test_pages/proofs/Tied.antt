@@ -314,10 +314,10 @@ tied-before w h j B T =
 -- ---- where the table starts
 
 -- a medium of spoilt pages, all bytes 0
-abbrev unformatted : List ℕ
+abbrev pub unformatted : List ℕ
 unformatted = replicate 16384 0
 
-long : length unformatted ≡ 16384
+pub long : length unformatted ≡ 16384
 long = length-replicate {A = ℕ} 16384 0
 
 zero-spoilt : viewOf (replicate 256 0) ≡ spoilt
@@ -330,7 +330,7 @@ sees-spoilt =
     (λ p i there l. getD-replicate {A = ℕ} 16384 (256 * p + i) 0 0 (omega (arith, long)) ∙ sym (getD-replicate {A = ℕ} 256 i 0 0 l))
     ∙ ap (λ (n : ℕ). replicate (n / 256) (viewOf (replicate 256 0))) long ∙ ap (λ (x : View). replicate 64 x) zero-spoilt
 
-zero-bytes : (n : ℕ) → Bytes (replicate n 0)
+pub zero-bytes : (n : ℕ) → Bytes (replicate n 0)
 zero-bytes zero = below-nil (omega arith)
 zero-bytes (suc n) = below-cons (omega arith) (zero-bytes n)
 
@@ -338,7 +338,7 @@ size-ok : sizeOk (length unformatted) ≡ true
 size-ok = ap sizeOk long ∙ (unfold sizeOk every in refl)
 
 -- the world where formatting begins, and the table's journal of it
-abbrev unerased : World
+abbrev pub unerased : World
 unerased = world unformatted (some (formatting 4)) (blank 256)
 
 abbrev begunFormat : Journal
@@ -375,7 +375,7 @@ narrow-base =
     }
 
 -- four erases and the page
-formatted-tells : Tells (lentAnew (stepsOn 5 unerased)) Table.fresh
+pub formatted-tells : Tells (lentAnew (stepsOn 5 unerased)) Table.fresh
 unfolding
     stepsOn Table.steps every all allBelow oneIf valueOr under sizeOk putAt seen isClean whollyClean headFit placeFit indexFit groupOk
     basePages doneFit formatFit pendingFit fit isIdle flushOk groupsFit bufferFit fitWith bufferedIn inMaking gathered Buffer.holding

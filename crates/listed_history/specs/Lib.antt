@@ -1,0 +1,2 @@
+pub mod ListsHistory
+pub mod Examples
