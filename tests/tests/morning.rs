@@ -5,9 +5,13 @@ mod common;
 
 use common::{commit, formatted};
 use journal_tests::before;
+use journal_tests::corners::file;
 use journal_tests::random::{self, Random};
 use journal_tests::reader::{self, Entry, REMOVAL};
 use std::collections::BTreeMap;
+use std::fs;
+use std::path::{Path, PathBuf};
+use std::process::Command;
 
 /// What the proved program prints for a medium.
 fn printed(medium: &[u8]) -> String {
@@ -88,5 +92,90 @@ fn a_length_that_is_not_allowed() {
         medium.resize(length, 0xFF);
         assert_eq!(reader::recover(&medium).is_ok(), many[..5].contains(&length));
         assert_eq!(printed(&medium), "refused 1\n", "{length} bytes");
+    }
+}
+
+// ---------------------------------------------------------------------------
+// Whether a listing is whole
+
+/// The lines of shell in docs/USING.md: the one that runs the program, and those that
+/// tell whether its listing is whole.
+fn lines_of_shell() -> (String, String) {
+    let text = file("docs/USING.md");
+    let section = text.split("\n## Whether a listing is whole\n").nth(1).expect("its section");
+    let section = section.split("\n## ").next().expect("its section");
+    let lines: Vec<&str> = section.lines().filter_map(|line| line.strip_prefix("    ")).collect();
+    let (runs, asks) = lines.split_first().expect("the lines");
+    (runs.to_string(), asks.join("\n"))
+}
+
+/// A folder in which lines of shell are run.
+struct Folder(PathBuf);
+
+impl Folder {
+    fn new(name: &str) -> Folder {
+        let path = Path::new(env!("CARGO_TARGET_TMPDIR")).join(name);
+        fs::create_dir_all(&path).expect("a folder");
+        Folder(path)
+    }
+
+    fn put(&self, name: &str, bytes: &[u8]) {
+        fs::write(self.0.join(name), bytes).expect("a file");
+    }
+
+    /// Whether the last line ends with status 0.
+    fn accepts(&self, lines: &str) -> bool {
+        let mut shell = Command::new("sh");
+        shell.arg("-c").arg(lines).current_dir(&self.0);
+        shell.status().expect("the shell").success()
+    }
+}
+
+/// Listings and refusals, whole, cut off after each of their bytes, and with a line
+/// more.
+#[test]
+fn a_listing_that_is_cut_off_is_told_from_a_whole_one() {
+    let (_, asks) = lines_of_shell();
+    let folder = Folder::new("cut_off");
+    let sample = fs::read_to_string("../crates/morning/stdout").expect("the sample");
+    for whole in [&sample, "log 0\nset 0\n", "log 1\n0 7 11\nset 1\n7 11\n", "refused 12\n"] {
+        for length in 0..=whole.len() {
+            folder.put("ERRORS", b"");
+            folder.put("LISTING", &whole.as_bytes()[..length]);
+            assert_eq!(folder.accepts(&asks), length == whole.len(), "{length} bytes of {whole}");
+        }
+        folder.put("LISTING", format!("{whole}7 1\n").as_bytes());
+        assert!(!folder.accepts(&asks), "a line behind {whole}");
+        folder.put("LISTING", whole.as_bytes());
+        folder.put("ERRORS", b"standard input: Input/output error\n");
+        assert!(!folder.accepts(&asks), "an error beside {whole}");
+    }
+}
+
+/// The program, run so, on media and with streams that fail.
+#[test]
+fn a_run_that_failed_is_told_from_a_whole_one() {
+    let (runs, asks) = lines_of_shell();
+    let folder = Folder::new("runs");
+    let medium = at_the_ends(&mut Random::new(50));
+    for (medium, refused) in [(&medium[..], false), (&medium[..12288], true), (&[], true)] {
+        folder.put("MEDIUM", medium);
+        let length = reader::morning(medium).len();
+        let program = common::proved("morning");
+        let library = common::streams_library().display();
+        let accepted = |fault: &str| {
+            let called = format!("LD_PRELOAD='{library}' FAULT='{fault}' '{program}'");
+            folder.accepts(&format!("{}\n{asks}", runs.replace("target/bin/morning", &called)))
+        };
+        for n in [0, 1, length / 2, length - 1, length] {
+            assert_eq!(accepted(&format!("write {n}")), n == length, "{n} bytes written");
+        }
+        for n in (0..=medium.len()).step_by(4096) {
+            assert!(!accepted(&format!("read {n}")), "{n} bytes read");
+        }
+        assert!(accepted("short 100"));
+        let listing = fs::read_to_string(folder.0.join("LISTING")).expect("the listing");
+        assert_eq!(listing, reader::morning(medium));
+        assert_eq!(listing.starts_with("refused 1\n"), refused);
     }
 }

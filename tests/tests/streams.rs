@@ -5,7 +5,7 @@
 
 mod common;
 
-use common::{begin_append, formatted, lent, streams_fault, valves};
+use common::{begin_append, formatted, lent, streams_library, valves};
 use journal_tests::reader::{self, MORNING_BYTES, REMOVAL};
 use journal_tests::trace::{bytes_of, Call};
 use std::fs::{self, File};
@@ -75,8 +75,7 @@ impl Program {
     }
 
     fn proved((name, input): (&str, fn() -> Vec<u8>)) -> Program {
-        let path = format!("{}/../target/bin/{name}", env!("CARGO_MANIFEST_DIR"));
-        Program::new(path.into(), Language::Rattle, input())
+        Program::new(common::proved(name).into(), Language::Rattle, input())
     }
 
     /// An example, compiled as users do, with these parts of its text replaced.
@@ -116,7 +115,7 @@ impl Program {
     fn run_into(&self, output: Stdio, input: &[u8], fault: Option<&str>) -> Output {
         let mut command = Command::new(&self.path);
         if let Some(fault) = fault {
-            streams_fault(&mut command, fault);
+            command.env("LD_PRELOAD", streams_library()).env("FAULT", fault);
         }
         command.stdin(lent(input)).stdout(output).stderr(Stdio::piped());
         command.spawn().expect("the program").wait_with_output().expect("its output")

@@ -48,10 +48,11 @@ pub fn lent(bytes: &[u8]) -> File {
     file
 }
 
-/// The command's standard input or output has a fault, as `c/streams.c` says.
-pub fn streams_fault(command: &mut Command, fault: &str) {
+/// `c/streams.c`, compiled: loaded before a program, it gives faults to its standard
+/// input and output.
+pub fn streams_library() -> &'static Path {
     static LIBRARY: OnceLock<PathBuf> = OnceLock::new();
-    let library = LIBRARY.get_or_init(|| {
+    LIBRARY.get_or_init(|| {
         let name = concat!(env!("CARGO_CRATE_NAME"), "_streams.so");
         let path = Path::new(env!("CARGO_TARGET_TMPDIR")).join(name);
         let flags = ["-std=c99", "-O1", "-Wall", "-Wextra", "-Werror", "-shared", "-fPIC"];
@@ -59,8 +60,7 @@ pub fn streams_fault(command: &mut Command, fault: &str) {
         compiler.args(flags).arg("c/streams.c").arg("-o").arg(&path);
         assert!(compiler.status().expect("the C compiler").success());
         path
-    });
-    command.env("LD_PRELOAD", library).env("FAULT", fault);
+    })
 }
 
 /// A number that the environment gives.
