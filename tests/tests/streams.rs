@@ -7,7 +7,6 @@ mod common;
 
 use common::{begin_append, formatted, lent, streams_library, valves};
 use journal_tests::reader::{self, MORNING_BYTES, REMOVAL};
-use journal_tests::trace::{bytes_of, Call};
 use std::fs::{self, File};
 use std::os::unix::process::ExitStatusExt;
 use std::path::{Path, PathBuf};
@@ -51,20 +50,6 @@ fn long_medium() -> Vec<u8> {
     }
     assert_eq!(medium.len(), MORNING_BYTES);
     medium
-}
-
-/// A trace of 65536 bytes; each of its first recoveries finds 95 valves set.
-#[allow(dead_code)]
-fn long_trace() -> Vec<u8> {
-    let (keys, words) = common::lists(&valves(1, 94));
-    let mut calls = vec![Call::Format { blocks: 4 }];
-    calls.resize(6, Call::Step);
-    calls.push(Call::Append { keys, words });
-    calls.resize(calls.len() + 4, Call::Step);
-    calls.resize(calls.len() + 40, Call::Recover);
-    let length: usize = 8 + calls.iter().map(Call::length).sum::<usize>();
-    calls.resize(calls.len() + (MORNING_BYTES - length) / 16, Call::Step);
-    bytes_of(&calls)
 }
 
 impl Program {
@@ -205,7 +190,7 @@ impl Program {
         for (fault, stream) in
             [("read_interrupted", "standard input"), ("write_interrupted", "standard output")]
         {
-            for n in [0, 1, 4096, 20480] {
+            for n in [0, 1, 4096, 8192] {
                 let output = self.run(&self.input, Some(&format!("{fault} {n}")));
                 match self.language {
                     Language::Rust => self.prints(&output, &self.whole),
@@ -230,7 +215,7 @@ impl Program {
                 .map_err(|what| format!("a full device: {what}"))?;
         }
         let length = self.whole.len();
-        for n in [0, 1, 2, 4095, 4096, 4097, 65536, length / 2, length - 1] {
+        for n in [0, 1, 2, 4095, 4096, 4097, length / 2, length - 1] {
             let output = self.run(&self.input, Some(&format!("write {n}")));
             self.tells(&output, "standard output", full)
                 .map_err(|what| format!("write {n}: {what}"))?;
@@ -273,7 +258,7 @@ impl Program {
 
     /// All that a program is held to.
     fn verify(&self) -> Right {
-        ensure(self.whole.len() > 2 * 32768, || format!("{} bytes", self.whole.len()))?;
+        ensure(self.whole.len() > 3 * 4096, || format!("{} bytes", self.whole.len()))?;
         self.prints(&self.run(&self.input, None), &self.whole)?;
         self.reads_that_fail()?;
         self.writes_that_fail()?;
