@@ -5,7 +5,7 @@
 
 mod common;
 
-use common::{begin_append, formatted, lent, streams_library, valves};
+use common::{begin_append, formatted, lent, streams_library};
 use journal_tests::reader::{self, MORNING_BYTES, REMOVAL};
 use std::fs::{self, File};
 use std::os::unix::process::ExitStatusExt;
