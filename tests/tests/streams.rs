@@ -222,28 +222,27 @@ impl Program {
             ensure(output.stdout == self.whole[..n], || format!("write {n}: {}", ended(&output)))?;
         }
         self.prints(&self.run(&self.input, Some(&format!("write {length}"))), &self.whole)?;
-        let line = "trap '' PIPE; exec 3<&0; { sleep 0.1; exec \"$0\" <&3; } | :";
-        let mut command = Command::new("sh");
-        command.arg("-c").arg(line).arg(&self.path).stdin(lent(&self.input));
-        let output = command.output().expect("the program");
-        let told = String::from_utf8_lossy(&output.stderr);
-        ensure(told.contains("standard output: Broken pipe"), || ended(&output))
+        let (reader, writer) = std::io::pipe().expect("a pipe");
+        drop(reader);
+        let mut shell = Command::new("sh");
+        shell.args(["-c", "trap '' PIPE; exec \"$0\""]).arg(&self.path);
+        shell.stdin(lent(&self.input)).stdout(writer).stderr(Stdio::piped());
+        let output = shell.spawn().expect("the program").wait_with_output().expect("its output");
+        self.tells(&output, "standard output", "Broken pipe")
     }
 
     /// Descriptors that are closed. Where a program in Rust begins, its library opens
     /// /dev/null in their places: an empty input, and an output that is lost.
     fn closed_descriptors(&self) -> Right {
-        let rust = self.language == Language::Rust;
-        let bad = "Bad file descriptor";
-        let output = self.run_with("<&-", &[]);
-        match rust {
-            true => self.prints(&output, &self.run(&[], None).stdout)?,
-            false => self.only_tells(&output, "standard input", bad)?,
-        }
-        let output = self.run_with(">&-", &self.input);
-        match rust {
-            true => self.prints(&output, &[])?,
-            false => self.only_tells(&output, "standard output", bad)?,
+        let (rust, bad) = (self.language == Language::Rust, "Bad file descriptor");
+        let no_input = self.run_with("<&-", &[]);
+        let no_output = self.run_with(">&-", &self.input);
+        if rust {
+            self.prints(&no_input, &self.run(&[], None).stdout)?;
+            self.prints(&no_output, &[])?;
+        } else {
+            self.only_tells(&no_input, "standard input", bad)?;
+            self.only_tells(&no_output, "standard output", bad)?;
         }
         self.prints(&self.run_with("2>&-", &self.input), &self.whole)?;
         let status = if self.language == Language::Rattle { 0 } else { 2 };
@@ -279,32 +278,28 @@ fn the_examples() {
     for name in EXAMPLES {
         for language in [Language::C, Language::Rust] {
             let program = Program::example(language, name, "as it is", &[]);
-            program.verify().unwrap_or_else(|what| panic!("{name}, {language:?}: {what}"));
+            let right = program.verify().and_then(|()| lengths(&program, name));
+            right.unwrap_or_else(|what| panic!("{name}, {language:?}: {what}"));
         }
     }
 }
 
-/// The examples, on inputs at, below and beyond the longest length, against the
-/// second implementation.
-#[test]
-fn lengths() {
-    let medium = long_medium();
-    let longer = [&medium[..], &[0xFF; 4096]].concat();
-    for name in EXAMPLES {
-        for language in [Language::C, Language::Rust] {
-            let program = Program::example(language, name, "lengths", &[]);
-            for length in [0, 1, 16383, 16384, 65535, 65536, 65537, 65792, 69632] {
-                let listing = reader::morning(&longer[..length]);
-                let line = |line: &&str| name == "morning" || line.split(' ').count() == 3;
-                let lines: Vec<&str> = listing.lines().filter(line).collect();
-                let refused = lines.is_empty() || listing.starts_with("refused");
-                let text = if refused { listing.clone() } else { lines.join("\n") + "\n" };
-                assert_eq!(refused, ![16384, 65536].contains(&length));
-                let printed = program.run(&longer[..length], None);
-                program.prints(&printed, text.as_bytes()).expect("what the second one prints");
-            }
-        }
+/// Inputs at, below and beyond the longest length, against the second implementation:
+/// `reader` prints the lines of the log alone, or the refusal.
+fn lengths(program: &Program, name: &str) -> Right {
+    let medium = [&program.input[..], &[0xFF; 4096]].concat();
+    for length in [0, 1, 16383, 16384, 65535, 65536, 65537, 65792, 69632] {
+        let listing = reader::morning(&medium[..length]);
+        let refused = listing.starts_with("refused");
+        let printed = |line: &&str| refused || name == "morning" || line.split(' ').count() == 3;
+        let text: String =
+            listing.lines().filter(printed).map(|line| format!("{line}\n")).collect();
+        ensure(refused != [16384, 65536].contains(&length), || format!("{length} bytes"))?;
+        program
+            .prints(&program.run(&medium[..length], None), text.as_bytes())
+            .map_err(|what| format!("{length} bytes: {what}"))?;
     }
+    Ok(())
 }
 
 // ---------------------------------------------------------------------------
