@@ -92,11 +92,10 @@ fn prints_what_the_second_implementation_prints() {
 /// pages of kind 4 in its log, words 0, and a length that is no blocks.
 fn held(medium: &[u8], lines: &mut BTreeMap<String, usize>) {
     let mut count = |what: String| *lines.entry(what).or_insert(0) += 1;
-    let Ok(replay) = reader::replay(medium) else {
-        return if medium.len() % BLOCK_BYTES != 0 {
-            count("no blocks".to_string())
-        };
-    };
+    if medium.len() % BLOCK_BYTES != 0 {
+        count("no blocks".to_string());
+    }
+    let Ok(replay) = reader::replay(medium) else { return };
     count(format!("{} blocks", replay.state.blocks));
     let pages = (0..).map_while(|p| Page::of(medium, p));
     let gathered = |page: &Page| page.kind() == GATHERED && page.class() == Class::Whole;

@@ -180,26 +180,34 @@ impl Program {
         self.only_tells(&output, "standard input", "Is a directory")
     }
 
-    /// Reads and writes that move a few bytes only are no failure. One that a signal
-    /// interrupts is none in Rust, whose library makes it again; in the others it is
-    /// told. It is never taken for the end.
-    fn short_and_interrupted(&self) -> Right {
+    /// Reads and writes that move a few bytes only are no failure.
+    fn short_calls(&self) -> Right {
         for n in [1, 1000, 4096, 4097, 65535] {
-            self.prints(&self.run(&self.input, Some(&format!("short {n}"))), &self.whole)?;
+            self.prints(&self.run(&self.input, Some(&format!("short {n}"))), &self.whole)
+                .map_err(|what| format!("short {n}: {what}"))?;
         }
-        for (fault, stream) in
-            [("read_interrupted", "standard input"), ("write_interrupted", "standard output")]
-        {
-            for n in [0, 1, 4096, 8192] {
-                let output = self.run(&self.input, Some(&format!("{fault} {n}")));
-                match self.language {
-                    Language::Rust => self.prints(&output, &self.whole),
-                    _ => self.tells(&output, stream, "Interrupted system call"),
-                }
-                .map_err(|what| format!("{fault} {n}: {what}"))?;
-                let none = fault == "read_interrupted" && self.language != Language::Rust;
-                ensure(!none || output.stdout.is_empty(), || format!("{fault} {n}"))?;
+        Ok(())
+    }
+
+    /// A call that a signal interrupts is made again, or told: it is never taken for the
+    /// end. In Rust the library makes it again, in C it is told.
+    fn interrupted_calls(&self) -> Right {
+        let error = "Interrupted system call";
+        for n in [0, 1, 4096, 8192] {
+            let read = self.run(&self.input, Some(&format!("read_interrupted {n}")));
+            let write = self.run(&self.input, Some(&format!("write_interrupted {n}")));
+            let again = self.prints(&read, &self.whole).and(self.prints(&write, &self.whole));
+            let told = self.only_tells(&read, "standard input", error).and(self.tells(
+                &write,
+                "standard output",
+                error,
+            ));
+            match self.language {
+                Language::Rattle => again.or(told),
+                Language::C => told,
+                Language::Rust => again,
             }
+            .map_err(|what| format!("interrupted {n}: {what}"))?;
         }
         Ok(())
     }
@@ -261,7 +269,8 @@ impl Program {
         self.prints(&self.run(&self.input, None), &self.whole)?;
         self.reads_that_fail()?;
         self.writes_that_fail()?;
-        self.short_and_interrupted()?;
+        self.short_calls()?;
+        self.interrupted_calls()?;
         self.closed_descriptors()
     }
 }
@@ -317,7 +326,7 @@ fn wrong_programs() {
             ("        return failed(\"standard input\");", "        failed(\"standard input\");"),
         ]),
         (C, "nobody asks whether all is written", "a full device", &[("ferror(stdout) || fflush(stdout) != 0", "0")]),
-        (C, "only the last write is asked for", "write_interrupted 0", &[("ferror(stdout) || ", "")]),
+        (C, "only the last write is asked for", "interrupted 0", &[("ferror(stdout) || ", "")]),
         (C, "status 0", "read 0: exit status: 0", &[("    return 2;\n", "    return 0;\n")]),
         (Rust, "a failed read is the end", "read 0", &[(".map_err(failed(\"standard input\"))?;", ".unwrap_or(0);")]),
         (Rust, "a failed write is a panic", "a full device: exit status: 101", &[
