@@ -1,8 +1,8 @@
 // Reads a medium of at most 65536 bytes from standard input; prints its log change by change, each line as `morning` prints it, with no list of
 // changes in memory; or the number of the refusal, 1 for more bytes.
 //
-// Exit status: 0 all is printed, a refusal too. 2 standard input or output failed, which is told on standard error; after a read that failed
-// nothing is printed.
+// Exit status: 0 all is printed, a refusal too. 2 standard input or output failed, which is told on standard error; after a failed
+// read nothing is printed.
 //
 //   rt staticlib journal_c
 //   rustc --edition 2021 -O -L target/staticlib examples/reader.rs -o target/reader_rs
@@ -19,7 +19,8 @@ const LONGEST: usize = 16 * BLOCK_BYTES;
 
 // Prints a line for each change, or the refusal.
 fn print_log(medium: &[u8], output: &mut impl Write) -> io::Result<()> {
-    match if medium.len() > LONGEST { Err(Refusal::Length) } else { changes(medium) } {
+    let log = if medium.len() > LONGEST { Err(Refusal::Length) } else { changes(medium) };
+    match log {
         Err(refusal) => writeln!(output, "refused {}", refusal as u8)?,
         Ok(changes) => {
             for Change { key, word, group } in changes {

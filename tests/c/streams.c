@@ -1,6 +1,6 @@
-/* Stands between a program and its standard input and output, loaded before the C library (LD_PRELOAD); the program itself is as users compile
- * it. Reads of descriptor 0 and writes to descriptor 1 come here, those of stdio too, whose two streams are replaced before `main`. FAULT is a
- * word and a number n:
+/* Stands between a program and its standard input and output, loaded before the C library (LD_PRELOAD); the program itself is as
+ * users compile it. Reads of descriptor 0 and writes to descriptor 1 come here, those of stdio too, whose two streams are replaced
+ * before `main`. FAULT is a word and a number n:
  *   read               once n bytes are read, each read fails with EIO
  *   read_interrupted   once n bytes are read, one read fails with EINTR
  *   write              once n bytes are written, each write fails with ENOSPC
