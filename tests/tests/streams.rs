@@ -263,6 +263,24 @@ impl Program {
         ensure(output.status.signal().is_none(), || ended(&output))
     }
 
+    /// One byte less than the longest input ends with a refusal, and more than it is
+    /// refused in one line.
+    fn beside_the_longest(&self) -> Right {
+        let length = self.input.len();
+        ensure(length == MORNING_BYTES, || format!("{length} bytes"))?;
+        for length in [length - 1, length + 1, length + 4096, 16 * length] {
+            let mut input = self.input.clone();
+            input.resize(length, 0xFF);
+            let output = self.run(&input, None);
+            self.prints(&output, &output.stdout)?;
+            let text = String::from_utf8_lossy(&output.stdout);
+            let refused = text.lines().last().is_some_and(|line| line.starts_with("refused "));
+            let alone = length < self.input.len() || text.lines().count() == 1;
+            ensure(refused && alone, || format!("{length} bytes: {}", ended(&output)))?;
+        }
+        Ok(())
+    }
+
     /// All that a program is held to.
     fn verify(&self) -> Right {
         ensure(self.whole.len() > 3 * 4096, || format!("{} bytes", self.whole.len()))?;
@@ -271,6 +289,7 @@ impl Program {
         self.writes_that_fail()?;
         self.short_calls()?;
         self.interrupted_calls()?;
+        self.beside_the_longest()?;
         self.closed_descriptors()
     }
 }
