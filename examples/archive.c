@@ -12,7 +12,7 @@
  * The folder is locked meanwhile. Nobody else writes to the chip while the program runs, and nobody else commits.
  *
  * Exit status: 0 done. 1 somebody should look: the medium is refused or not the one that was filed, and nothing was filed or
- * committed; or its log is filed and the commit refused. 2 a file or the chip failed: run it again.
+ * committed; or its log is filed and the commit refused. 2 a file, the chip or a standard stream failed: run it again.
  *
  *   rt staticlib journal_c
  *   cc -std=c99 -Wall -Wextra -I include examples/archive.c target/staticlib/libjournal_c.a -o target/archive_c
