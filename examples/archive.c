@@ -12,7 +12,7 @@
  * The folder is locked meanwhile. Nobody else writes to the chip while the program runs, and nobody else commits.
  *
  * Exit status: 0 done. 1 somebody should look: the medium is refused or not the one that was filed, and nothing was filed or
- * committed; or its log is filed and the commit refused. 2 a file or the chip failed: run it again.
+ * committed; or its log is filed and the commit refused. 2 a file, the chip or a standard stream failed: run it again.
  *
  *   rt staticlib journal_c
  *   cc -std=c99 -Wall -Wextra -I include examples/archive.c target/staticlib/libjournal_c.a -o target/archive_c
@@ -291,6 +291,9 @@ int main(int count, char **arguments)
     int starts = count == 4 && strcmp(arguments[1], "new") == 0;
     if (count != 3 + starts)
         return fputs("archive CHIP FOLDER files what is new; archive new CHIP FOLDER starts a mark\n", stderr), 2;
+    for (int file = 0; file < 3; file++) /* what is opened below must not take the place of a standard stream */
+        if (fcntl(file, F_GETFD) == -1)
+            stop(2, "descriptor %d", file);
     const char *name = arguments[1 + starts], *place = arguments[2 + starts];
     if ((folder = open(place, O_RDONLY | O_DIRECTORY)) < 0)
         stop(2, "%s", place);
@@ -303,7 +306,7 @@ int main(int count, char **arguments)
         start_mark(name);
     else
         file_and_commit(name);
-    if (fflush(stdout) != 0)
+    if (ferror(stdout) || fflush(stdout) != 0)
         stop(2, "standard output");
     return 0;
 }

@@ -232,12 +232,12 @@ fn run() -> Result<String, Stop> {
 }
 
 fn main() -> ExitCode {
-    let told = run().and_then(|told| io::stdout().write_all(told.as_bytes()).map_err(failed("standard output")));
-    let (message, status) = match told {
+    let print = |told: String| io::stdout().write_all(told.as_bytes()).and_then(|()| io::stdout().flush());
+    let (message, status) = match run().and_then(|told| print(told).map_err(failed("standard output"))) {
         Ok(()) => return ExitCode::SUCCESS,
         Err(Stop::Look(message)) => (message, 1),
         Err(Stop::Failed(message)) => (message, 2),
     };
-    eprintln!("archive: {message}");
+    let _ = writeln!(io::stderr(), "archive: {message}");
     ExitCode::from(status)
 }

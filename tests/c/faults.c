@@ -45,13 +45,15 @@ static int trace = -1;
 static char word[16];
 static long left;
 
-/* Reads what the test asks for. */
+/* Reads what the test asks for. The trace takes a place far from the standard streams', which may be closed. */
 static void begin(void)
 {
     const char *fault = getenv("FAULT");
     if (trace >= 0)
         return;
-    trace = __real_open64(getenv("TRACE"), O_WRONLY | O_APPEND);
+    int first = __real_open64(getenv("TRACE"), O_WRONLY | O_APPEND);
+    trace = fcntl(first, F_DUPFD, 100);
+    close(first);
     if (trace < 0 || (fault != NULL && sscanf(fault, "%15s %ld", word, &left) != 2))
         abort();
 }

@@ -505,6 +505,41 @@ fn in_use(program: &Program, world: &World) -> Right {
     Ok(())
 }
 
+/// Standard streams that are closed, or a full device: no message lands in the chip
+/// or in a file. In C closed streams end the program before anything is opened; where
+/// a program in Rust begins, its library opens /dev/null in their places. What a full
+/// device does not take is told, and all is filed.
+fn failing_streams(program: &Program, world: &World) -> Right {
+    let closed = ["<&- >&-", ">&- 2>&-", "<&- >&- 2>&-", "<&-", ">&-", "2>&-"];
+    for streams in closed.into_iter().chain([">/dev/full"]) {
+        let mut next = world.clone();
+        next.disk.lay_out(&program.home);
+        let trace = program.home.join("trace");
+        fs::write(&trace, "").expect("the trace");
+        let output = Command::new("sh")
+            .args(["-c", &format!("exec \"$0\" chip folder {streams}")])
+            .arg(&program.path)
+            .current_dir(&program.home)
+            .env("TRACE", &trace)
+            .output()
+            .expect("the program");
+        next.disk.follow(&fs::read(&trace).expect("the trace"));
+        let chip = fs::read(program.home.join("chip")).expect("the chip");
+        ensure(chip == next.disk.chip(), || format!("{streams}: the chip"))?;
+        let (status, told) = (output.status.code(), String::from_utf8_lossy(&output.stderr));
+        let failed =
+            status == Some(2) && (told.contains("standard output") || closed.contains(&streams));
+        ensure(failed || status == Some(0), || format!("{streams}: {status:?}, {told}"))?;
+        ensure(streams != ">/dev/full" || failed, || "a full device, and nobody tells".into())?;
+        if failed && closed.contains(&streams) {
+            ensure(chip == world.disk.chip(), || format!("{streams}: changed"))?;
+        } else {
+            next.complete().map_err(|what| format!("{streams}: {what}"))?;
+        }
+    }
+    Ok(())
+}
+
 /// Mornings on a chip of so many blocks, each of them killed anywhere.
 fn mornings(program: &Program, blocks: usize, seed: u64) -> Right {
     let (mut world, mut random) = (program.begin(blocks)?, Random::new(seed));
@@ -540,6 +575,7 @@ fn verify(program: &Program) -> Right {
     spoilt_files(program, &world)?;
     in_use(program, &world)?;
     world.control(&mut random, 2, 2);
+    failing_streams(program, &world)?;
     calls_that_fail(program, &world, &mut random)?;
     killed_and_cut(program, &world, &mut random)?;
     program.finish(&mut world, &mut random)?;
@@ -589,7 +625,9 @@ fn found_out(language: Language, wrong: &[Wrong]) {
 }
 
 #[rustfmt::skip]
-const WRONG_IN_C: [Wrong; 13] = [
+const WRONG_IN_C: [Wrong; 15] = [
+    ("a closed stream is not asked for", "<&- >&-: the chip", &[("fcntl(file, F_GETFD) == -1", "0")]),
+    ("a full device is not told", "a full device", &[("ferror(stdout) || fflush(stdout) != 0", "0")]),
     ("filed after the commit", "the changes", &[
         ("/* Files the settings:", "static void commit(const char *, const VjNews *);\n/* Files the settings:"),
         ("    if (ftruncate(csv,", "    commit(name, found);\n    if (ftruncate(csv,"),

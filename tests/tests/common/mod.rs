@@ -7,23 +7,60 @@ use journal_tests::player::{Action, Outcome};
 use journal_tests::random::{Life, Random};
 use journal_tests::reader::*;
 use journal_tests::writer::{self, Pending, State, Step, Touched};
+use std::fs::{self, File};
 use std::io::{ErrorKind, Write};
+use std::path::{Path, PathBuf};
 use std::process::{Command, Stdio};
+use std::sync::atomic::{AtomicUsize, Ordering};
+use std::sync::OnceLock;
 
-/// What a proved program prints for a medium; `rt check` writes the program.
-pub fn printed(program: &str, medium: &[u8]) -> String {
-    let path = format!("{}/../target/bin/{program}", env!("CARGO_MANIFEST_DIR"));
-    let mut child = Command::new(path)
+/// A proved program; `rt check` writes it.
+pub fn proved(program: &str) -> String {
+    format!("{}/../target/bin/{program}", env!("CARGO_MANIFEST_DIR"))
+}
+
+/// What a proved program prints for an input; it tells nothing on standard error.
+pub fn printed(program: &str, input: &[u8]) -> String {
+    let mut child = Command::new(proved(program))
         .stdin(Stdio::piped())
         .stdout(Stdio::piped())
+        .stderr(Stdio::piped())
         .spawn()
         .expect("the program in target/bin, which `rt check` writes");
     // The program may close its input once it has read enough.
-    if let Err(error) = child.stdin.take().expect("its input").write_all(medium) {
+    if let Err(error) = child.stdin.take().expect("its input").write_all(input) {
         assert_eq!(error.kind(), ErrorKind::BrokenPipe);
     }
     let output = child.wait_with_output().expect("its output");
+    assert_eq!(String::from_utf8_lossy(&output.stderr), "", "{program}");
     String::from_utf8(output.stdout).expect("text")
+}
+
+/// A file with these bytes and no name, to be read from its beginning.
+pub fn lent(bytes: &[u8]) -> File {
+    static COUNT: AtomicUsize = AtomicUsize::new(0);
+    let nth = COUNT.fetch_add(1, Ordering::Relaxed);
+    let name = format!("lent_{}_{nth}", std::process::id());
+    let path = Path::new(env!("CARGO_TARGET_TMPDIR")).join(name);
+    fs::write(&path, bytes).expect("a file");
+    let file = File::open(&path).expect("the file");
+    fs::remove_file(&path).expect("the file");
+    file
+}
+
+/// `c/streams.c`, compiled: loaded before a program, it gives faults to its standard
+/// input and output.
+pub fn streams_library() -> &'static Path {
+    static LIBRARY: OnceLock<PathBuf> = OnceLock::new();
+    LIBRARY.get_or_init(|| {
+        let name = concat!(env!("CARGO_CRATE_NAME"), "_streams.so");
+        let path = Path::new(env!("CARGO_TARGET_TMPDIR")).join(name);
+        let flags = ["-std=c99", "-O1", "-Wall", "-Wextra", "-Werror", "-shared", "-fPIC"];
+        let mut compiler = Command::new("cc");
+        compiler.args(flags).arg("c/streams.c").arg("-o").arg(&path);
+        assert!(compiler.status().expect("the C compiler").success());
+        path
+    })
 }
 
 /// A number that the environment gives.
