@@ -33,6 +33,17 @@
  * instruction beyond SSE2, of other libraries memcpy and memset only, and has no data that it writes to: calls on different media may run at the
  * same time. A C compiler that lays out a struct otherwise than the library stops at the assertions at the end of this file.
  *
+ * Memory, of a program in all. Stack: the greatest VJ_STACK_x of the calls that it makes; it holds the state that a call is given and the one
+ * that it hands back too. Between calls: the state, 4176 bytes, and the write buffer, VJ_BUFFER_BYTES. The medium, and the lists that it lends.
+ * No heap, and no data of the library's that is written to. Code and constants: some 63 KB with all calls, 34 KB with vj_recover, vj_append,
+ * vj_commit, vj_collect and vj_step alone, where the linker leaves out what is not called (--gc-sections).
+ *
+ * Flash that is mapped into memory may be lent to every call that takes the medium as const, where plain loads of up to 16 bytes give the chip's
+ * bytes while the call runs: such a call reads the medium and writes nothing there. It must not be lent to vj_step, which stores the page or
+ * the FFh of the block in the medium itself and leaves the chip to its caller. So a program that only reads needs no copy of the chip; one that
+ * writes needs the whole chip in RAM, 16 KB to 1 MB, for the steps of an operation: it may read the chip into that RAM before the first step and
+ * use the RAM for something else after the last one is carried to the chip, while all other calls are lent the mapped flash.
+ *
  * valve_journal_run.h has whole operations over a chip's driver, each in one call.
  */
 #ifndef VALVE_JOURNAL_H

@@ -13,6 +13,7 @@ sys.path.insert(0, os.path.join(ROOT, "tools"))
 import edits
 import exports
 import gate
+import stack
 
 LOG = """rt: lists proved (2 s)
 library lists: modules loaded=20 checked=0
@@ -94,6 +95,23 @@ class Gate(unittest.TestCase):
     def test_a_log_without_a_check(self):
         with files({"log": "nothing\n"}) as folder, contextlib.redirect_stdout(io.StringIO()):
             self.assertEqual(gate.main([os.path.join(folder, "log")]), 1)
+
+
+class Stack(unittest.TestCase):
+    HEADER = "enum {\n    VJ_STACK_LOG = 1,\n    VJ_STACK_PAGE = 2,\n    VJ_STACK_MOST = 3\n};\n"
+    TABLE = "bytes of stack\nvj_log          36000   68608\nvj_page           190    1024\n"
+
+    def test_lines_are_what_was_measured_and_some_more(self):
+        self.assertEqual(stack.figures(self.TABLE), {"LOG": 36864, "PAGE": 1024, "MOST": 36864})
+        self.assertEqual([stack.rounded(taken) for taken in (768, 769, 1792)], [1024, 2048, 2048])
+
+    def test_the_header_is_written_anew(self):
+        written = stack.rewritten(self.HEADER, stack.figures(self.TABLE))
+        self.assertEqual(written, self.HEADER.replace("= 1,", "= 36864,").replace("= 2,", "= 1024,").replace("= 3\n", "= 36864\n"))
+
+    def test_a_call_without_a_line(self):
+        self.assertIsNone(stack.rewritten(self.HEADER, stack.figures(self.TABLE + "vj_step  5  6\n")))
+        self.assertIsNone(stack.rewritten(self.HEADER, stack.figures("")))
 
 
 class Exports(unittest.TestCase):
