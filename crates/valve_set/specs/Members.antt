@@ -1,6 +1,6 @@
 -- A set of valve numbers, kept as bits: 64 of them in each word.
 use mathlib.Core.Path.{_≡_}
-use mathlib.Core.Bool.{Bool, true, not}
+use mathlib.Core.Bool.{Bool, true, false, not}
 use mathlib.Core.List.{List}
 use Prim.Native.Nat.{ℕ, _+_, _/_, _%_, _^_, _≤_, _<_}
 use lib.Dec.{eqb}
@@ -25,6 +25,11 @@ pub record Flipped (v : ℕ) (ws us : List ℕ) : Type 0 where
   pub long : length us ≡ length ws
   pub it : member us v ≡ not (member ws v)
   pub others : (u : ℕ) → (u ≡ v → ⊥) → member us u ≡ member ws u
+
+-- the set has no valve
+pub record Cleared (us : List ℕ) : Type 0 where
+  pub long : length us ≡ 512
+  pub none-in : (v : ℕ) → v < 32768 → member us v ≡ false
 
 -- v is one of the first n numbers
 pub record StandsAt (v n : ℕ) (keys : List ℕ) : Type 0 where
