@@ -1,168 +1,69 @@
-// Reads one medium of at most 65536 bytes from standard input and prints what its pages are, a line for each page that is not clean and one for
-// each run of clean pages, then `refused` and the number where recovery refuses it; `refused 1` alone for more bytes.
+// Reads one medium of at most 1048576 bytes from standard input and prints what its pages are: `pagesText` of what was read, and one byte past 1048576 is read
+// to tell that there are more. The text is longer than the memory that it is made in, so it is made and written window by window. Where reading or writing
+// fails that is told on standard error; after a failed read nothing is printed, after a failed write nothing more.
 ghost use mathlib.Core.Path.{_≡_};
 ghost use Prim.Native.Nat.{_≤_, _<_};
 ghost use lib.ListN.{length};
-use show::text;
+ghost use Rattle.pages.specs.Written.{WritesAll};
 
-// A word of the output, then a number, within a line.
-fn part(name: &[u8], n: u64) {
-    text(name);
-    show::number(n);
+// What was written: how many bytes, and whether a write failed.
+struct Written {
+    failed: bool,
+    count: usize,
 }
 
-// A page's kind, and what it is called.
-fn kind(k: u8) {
-    part(b"kind ", k as u64);
-    if k == 1 {
-        text(b" (nodes)");
-        return;
-    }
-    if k == 2 {
-        text(b" (base)");
-        return;
-    }
-    if k == 3 {
-        text(b" (moved nodes)");
-        return;
-    }
-    if k == 4 {
-        text(b" (small groups)");
-        return;
-    }
-    text(b" (unknown)");
-}
-
-// A page's flags, and what they say of its group.
-fn flags(f: u8) {
-    part(b", flags ", f as u64);
-    if f == 0 {
-        text(b" (neither begins nor ends)");
-        return;
-    }
-    if f == 1 {
-        text(b" (begins)");
-        return;
-    }
-    if f == 2 {
-        text(b" (ends)");
-        return;
-    }
-    if f == 3 {
-        text(b" (begins and ends)");
-        return;
-    }
-    text(b" (unknown)");
-}
-
-// What the bytes of a page say: kind, flags, serial and entries, as they stand there.
-fn fields(s: &[u8])
-    requires { ⌜ length (now s) ≡ 256 ⌝ }
+// The first k bytes of a list on standard output; whether they could be written.
+fn write_front(out: &[u8], k: usize) -> bool
+    requires { ⌜ k ≤ length (now out) ⌝ }
 {
-    kind(s[2]);
-    flags(s[3]);
-    part(b", serial ", codec::le64(s, 8));
-    part(b", entries ", codec::le16(s, 4) as u64);
+    streams::write(&out[..k])
 }
 
-// A page that is not clean: whole, and whether it keeps the page rules; or spoilt, and what it reads as.
-fn class(s: &[u8])
-    requires { ⌜ length (now s) ≡ 256 ⌝ }
+// The text of a medium on standard output, as many bytes at a time as the lent list is long.
+fn write(m: &[u8], out: &mut [u8]) -> Written
+    requires { ⌜ 0 < length (now out) ⌝ }
+    ensures { λ r. ⌜ WritesAll (now (m .entry)) r ⌝ }
 {
-    if !page::is_whole(s) {
-        text(b": spoilt, reads as ");
-        fields(s);
-        text(b"\n");
-        return;
-    }
-    text(b": whole, ");
-    fields(s);
-    if page::is_lawful(s) {
-        text(b", keeps the rules\n");
-        return;
-    }
-    text(b", breaks the rules\n");
-}
-
-// Page p.
-fn about(m: &[u8], p: usize) {
-    part(b"page ", p as u64);
-    let s = flash::page(m, p);
-    if s.len() != 256 {
-        return;
-    }
-    class(s);
-}
-
-// The clean pages from p on, up to the page before `end`.
-fn clean(p: usize, end: usize)
-    requires { ⌜ p < end ⌝ }
-{
-    if end == p + 1 {
-        part(b"page ", p as u64);
-        text(b": clean\n");
-        return;
-    }
-    part(b"pages ", p as u64);
-    part(b" to ", (end - 1) as u64);
-    text(b": clean\n");
-}
-
-// The first page from p on that is not clean, or n, the number of pages, where all are.
-fn clean_end(m: &[u8], p: usize, n: usize) -> usize
-    requires { ⌜ p ≤ n ⌝ }
-    ensures { λ r. ⌜ (p ≤ r) × (r ≤ n) ⌝ }
-{
-    let mut i = p;
-    while i < n {
-        if !flash::page_clean(m, i) {
-            return i;
+    let mut from: usize = 0;
+    loop {
+        let k = page_text::window(m, from, out);
+        if !write_front(out, k) {
+            return Written {
+                failed: true,
+                count: from,
+            };
         }
-        i += 1;
+        from += k;
+        if k < out.len() {
+            return Written {
+                failed: false,
+                count: from,
+            };
+        }
     }
-    i
 }
 
-// One line from page p on, and the page after those it is about.
-fn next(m: &[u8], p: usize, n: usize) -> usize
-    requires { ⌜ p < n ⌝ }
-    ensures { λ r. ⌜ (p < r) × (r ≤ n) ⌝ }
+// Room for the longest medium and one byte more.
+fn input_room() -> [u8; 1048577]
+    ensures { λ r. ⌜ 1048577 ≡ length r ⌝ }
 {
-    let end = clean_end(m, p, n);
-    if p < end {
-        clean(p, end);
-        return end;
-    }
-    about(m, p);
-    p + 1
+    [0; 1048577]
 }
 
-// What the pages are.
-fn pages(m: &[u8]) {
-    let n = m.len() / 256;
-    let mut p: usize = 0;
-    while p < n {
-        p = next(m, p, n);
-    }
-}
-
-// The number that recovery refuses with, if it does.
-fn recovery(m: &[u8]) {
-    let r = recover::recover(m);
-    let number = r.number;
-    if number != 0 {
-        show::refused(number);
-    }
+// Room for a part of its text.
+fn text_room() -> [u8; 1048576]
+    ensures { λ r. ⌜ 1048576 ≡ length r ⌝ }
+{
+    [0; 1048576]
 }
 
 fn main() {
-    let mut b = io::large_buffer();
-    let n = io::read_full(0, &mut b);
-    let mut more = [0u8; 1];
-    if io::read_full(0, &mut more) != 0 {
-        show::refused(1);
+    let mut b = input_room();
+    let r = streams::read(&mut b);
+    if r.failed {
         return;
     }
-    pages(&b[..n]);
-    recovery(&b[..n]);
+    let n = r.count;
+    let mut out = text_room();
+    write(&b[..n], &mut out);
 }

@@ -1,0 +1,4 @@
+pub mod Laws
+pub mod Lengths
+pub mod Medium
+pub mod Claims

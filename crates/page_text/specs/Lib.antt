@@ -1,0 +1,3 @@
+pub mod PageText
+pub mod Pieces
+pub mod Claims
