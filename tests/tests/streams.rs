@@ -22,16 +22,20 @@ enum Language {
     Rust,
 }
 
-/// A program, an input as long as it can be, and what it prints for that.
+/// A program, a long input, what it prints for that, and how long an input can be.
 struct Program {
     path: PathBuf,
     language: Language,
     input: Vec<u8>,
     whole: Vec<u8>,
+    longest: usize,
 }
 
-/// The proved programs, which `rt check` writes to target/bin, with their inputs.
-const PROVED: [(&str, fn() -> Vec<u8>); 1] = [("morning", long_medium)];
+/// A proved program, which `rt check` writes to target/bin: a long input, and how long
+/// an input can be.
+type Proved = (&'static str, fn() -> Vec<u8>, usize);
+
+const PROVED: [Proved; 1] = [("morning", long_medium, MORNING_BYTES)];
 
 /// The examples that read a medium.
 const EXAMPLES: [&str; 2] = ["morning", "reader"];
@@ -53,14 +57,14 @@ fn long_medium() -> Vec<u8> {
 }
 
 impl Program {
-    fn new(path: PathBuf, language: Language, input: Vec<u8>) -> Program {
-        let mut program = Program { path, language, input, whole: Vec::new() };
+    fn new(path: PathBuf, language: Language, input: Vec<u8>, longest: usize) -> Program {
+        let mut program = Program { path, language, input, whole: Vec::new(), longest };
         program.whole = program.run(&program.input, None).stdout;
         program
     }
 
-    fn proved((name, input): (&str, fn() -> Vec<u8>)) -> Program {
-        Program::new(common::proved(name).into(), Language::Rattle, input())
+    fn proved((name, input, longest): Proved) -> Program {
+        Program::new(common::proved(name).into(), Language::Rattle, input(), longest)
     }
 
     /// An example, compiled as users do, with these parts of its text replaced.
@@ -88,7 +92,14 @@ impl Program {
         }
         let output = command.arg("-o").arg(&path).output().expect("the compiler");
         assert!(output.status.success(), "{}", String::from_utf8_lossy(&output.stderr));
-        Program::new(path, language, long_medium())
+        Program::new(path, language, long_medium(), MORNING_BYTES)
+    }
+
+    /// The input, cut off or filled up to another length.
+    fn resized(&self, length: usize) -> Vec<u8> {
+        let mut input = self.input.clone();
+        input.resize(length, 0xFF);
+        input
     }
 
     /// Runs it with an input, and with a fault or none.
@@ -173,8 +184,8 @@ impl Program {
         self.only_tells(&output, "standard input", "Input/output error")?;
         let output = self.run(&self.input, Some(&format!("read {}", length + 1)));
         self.prints(&output, &self.whole)?;
-        let longer = [&self.input[..], &[0; 5000]].concat();
-        let output = self.run(&longer, Some(&format!("read {}", length + 1)));
+        let longer = self.resized(self.longest + 5000);
+        let output = self.run(&longer, Some(&format!("read {}", self.longest + 1)));
         self.prints(&output, &self.run(&longer, None).stdout)?;
         let output = self.run_with("</", &[]);
         self.only_tells(&output, "standard input", "Is a directory")
@@ -266,16 +277,14 @@ impl Program {
     /// One byte less than the longest input ends with a refusal, and more than it is
     /// refused in one line.
     fn beside_the_longest(&self) -> Right {
-        let length = self.input.len();
-        ensure(length == MORNING_BYTES, || format!("{length} bytes"))?;
-        for length in [length - 1, length + 1, length + 4096, 16 * length] {
-            let mut input = self.input.clone();
-            input.resize(length, 0xFF);
+        let longest = self.longest;
+        for length in [longest - 1, longest + 1, longest + 4096, 2 * longest] {
+            let input = self.resized(length);
             let output = self.run(&input, None);
             self.prints(&output, &output.stdout)?;
             let text = String::from_utf8_lossy(&output.stdout);
             let refused = text.lines().last().is_some_and(|line| line.starts_with("refused "));
-            let alone = length < self.input.len() || text.lines().count() == 1;
+            let alone = length < longest || text.lines().count() == 1;
             ensure(refused && alone, || format!("{length} bytes: {}", ended(&output)))?;
         }
         Ok(())
