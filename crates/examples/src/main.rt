@@ -2,8 +2,8 @@
 ghost use mathlib.Core.Path.{_≡_};
 ghost use Prim.Native.Nat.{_≤_};
 ghost use lib.ListN.{length};
-use show::line;
-use show::text;
+use print::line;
+use print::text;
 use state::State;
 use trials::APPEND;
 use trials::APPENDED;
@@ -23,7 +23,7 @@ use trials::VALVES;
 // A word of the output, then a number, within a line.
 fn part(name: &[u8], n: u64) {
     text(name);
-    show::number(n);
+    print::number(n);
 }
 
 // What a page is.
@@ -55,8 +55,12 @@ fn about(s: &[u8]) {
     class(s);
 }
 
-fn wide(x: u8) -> u64 {
-    x as u64
+// A byte, as two hexadecimal digits after a space.
+fn hex(x: u8) {
+    let mut digits = [0u8; 16];
+    let k = io::hex(x as u64, 2, &mut digits);
+    text(b" ");
+    text(&digits[..k]);
 }
 
 // The first nine bytes, a space before each.
@@ -66,8 +70,7 @@ fn start(s: &[u8]) {
     }
     let mut i: usize = 0;
     while i < 9 {
-        text(b" ");
-        io::print_hex(1, wide(s[i]), 2);
+        hex(s[i]);
         i += 1;
     }
     text(b"\n");
@@ -109,9 +112,9 @@ fn pages() {
 fn append_pages(n: u64) {
     let mut m = [255u8; 16384];
     let t = trials::play(&mut m, &[FORMATTED, SET, n, 1]);
-    show::number(n);
+    print::number(n);
     if t.number != 0 {
-        show::answer(b" entries: ", t.number);
+        print::answer(b" entries: ", t.number);
         return;
     }
     line(b" entries: pages ", t.steps as u64);
@@ -121,7 +124,7 @@ fn append_pages(n: u64) {
 fn commit_pages(low: u64, high: u64) {
     let mut m = [255u8; 16384];
     let t = trials::play(&mut m, &[FORMATTED, SET, low, 1, SET, high, 97, COMMITTED]);
-    show::number(t.state.index.count as u64);
+    print::number(t.state.index.count as u64);
     line(b" valves: pages of a commit ", t.steps as u64);
 }
 
@@ -130,7 +133,7 @@ fn left(name: &[u8], calls: &[u64]) {
     let mut m = [255u8; 16384];
     trials::play(&mut m, calls);
     text(name);
-    show::medium(&m);
+    print::medium(&m);
 }
 
 // An unset valve is removed: the log grows, the settings stay. A valve twice in a group.
@@ -149,18 +152,18 @@ fn groups() {
 // Condition 1 for a medium of n bytes.
 fn rule_1(name: &[u8], n: usize) {
     if blocks::size_ok(n) {
-        show::answer(name, 0);
+        print::answer(name, 0);
         return;
     }
-    show::answer(name, 1);
+    print::answer(name, 1);
 }
 
 // The length of a medium in bytes.
 fn lengths() {
     let sixteen = begin::format(&[255u8; 65536]);
-    show::answer(b"format of 65536 bytes: ", sixteen.number);
+    print::answer(b"format of 65536 bytes: ", sixteen.number);
     let one_more = begin::format(&[255u8; 69632]);
-    show::answer(b"format of 69632 bytes: ", one_more.number);
+    print::answer(b"format of 69632 bytes: ", one_more.number);
     rule_1(b"condition 1 for 1048576 bytes: ", 1048576);
     rule_1(b"condition 1 for 1052672 bytes: ", 1052672);
 }
@@ -198,7 +201,7 @@ fn cut() {
     let mut m = [255u8; 16384];
     let t = trials::play(&mut m, &[FORMATTED, VALVES, 30, 1, STEP]);
     line(b"30 entries cut after page ", last_page(t.state) as u64);
-    show::medium(&m);
+    print::medium(&m);
 }
 
 // The next append after the cut: its two steps.
@@ -247,14 +250,14 @@ fn filled() {
     if 2 <= next {
         line(b"one-page groups that pass: ", next - 2);
     }
-    show::answer(b"the next: ", t.number);
+    print::answer(b"the next: ", t.number);
 }
 
 // The picker's choice.
 fn picked(m: &[u8], s: State) {
     let r = read::pick(m, s);
     if r.number != 0 {
-        show::refused(r.number);
+        print::refused(r.number);
         return;
     }
     if r.found {
@@ -309,7 +312,7 @@ fn recovered() {
     let mut m = [255u8; 16384];
     let t = sample(&mut m, 12);
     text(b"{5 to 1000, 7 to 20}, {remove 5}:\n");
-    show::medium(&m);
+    print::medium(&m);
     first_block(&m, t.state);
 }
 
@@ -318,7 +321,7 @@ fn committed() {
     let mut m = [255u8; 16384];
     let t = sample(&mut m, 13);
     line(b"after a commit to page ", last_page(t.state) as u64);
-    show::medium(&m);
+    print::medium(&m);
     first_block(&m, t.state);
 }
 
@@ -327,7 +330,7 @@ fn collected() {
     let mut m = [255u8; 16384];
     let t = sample(&mut m, 15);
     line(b"after the collection of block 0, steps ", t.steps as u64);
-    show::medium(&m);
+    print::medium(&m);
     first_block(&m, t.state);
 }
 
@@ -337,7 +340,7 @@ const ANSWERS: usize = 1537;
 // What a reader has after its last change: 'no more', or the number that refused it.
 fn over(number: u8) {
     if number != 0 {
-        show::refused(number);
+        print::refused(number);
         return;
     }
     text(b"no more\n");
@@ -352,7 +355,7 @@ fn read_out(m: &[u8]) {
             over(c.next.number);
             return;
         }
-        show::change(c.group, c.key, c.word);
+        print::change(c.group, c.key, c.word);
         c = log_reader::following(m, c.next);
         n += 1;
     }
@@ -376,7 +379,7 @@ fn faded(name: &[u8], n: usize, at: u64)
     sample(&mut m, n);
     trials::play(&mut m, &[BYTE, at, 255]);
     text(name);
-    show::medium(&m);
+    print::medium(&m);
 }
 
 // Page 2, the newest; page 1, which leaves a gap; the commit's base, behind which an older one stands; the same after the collection, when none does.
@@ -469,7 +472,7 @@ fn word<'a>(m: &'a [u8], s: State, b: &'a [u8], valve: u16) {
     part(b"valve ", valve as u64);
     let w = word::word(m, s, b, valve);
     if w.len() < 8 {
-        show::answer(b": ", word::word_refusal(m, s, b, valve));
+        print::answer(b": ", word::word_refusal(m, s, b, valve));
         return;
     }
     line(b": ", codec::le64(w, 0));

@@ -2,8 +2,8 @@
 use mathlib.Core.Path.{_≡_, refl, sym, ap, _∙_}
 use mathlib.Core.Bool.{true, false}
 use mathlib.Core.Option.{some}
-use mathlib.Core.List.{List}
-use Prim.Native.Nat.{ℕ, suc, _/_, _*_, _+_}
+use mathlib.Core.List.{List, [], _∷_}
+use Prim.Native.Nat.{ℕ, suc, _/_, _*_, _+_, _^_, _<_}
 use native.Mathlib.Omega.{arith}
 use lib.Dec.{ltb}
 use lib.ListN.{length, replicate, length-replicate, getD-replicate}
@@ -38,10 +38,10 @@ use Rattle.page.specs.Buffer
 use Rattle.flash.specs.Medium.{views}
 use Rattle.flash.proofs.Steps.{views-alike}
 use Rattle.state.specs.State.{Held}
-use Rattle.lists.specs.Lists.{Bytes}
+use Rattle.lists.specs.Lists.{Below, Bytes}
 use Rattle.lists.specs.Needs.{gives}
 use Rattle.lists.specs.Cells.{Entry}
-use Rattle.lists.proofs.Laws.{same-given}
+use Rattle.lists.proofs.Laws.{below-nil, below-cons, same-given}
 use Rattle.text.specs.Text.{ascii, decimalWithin, decimal}
 use Rattle.listing.specs.Listing.{refusalLine, logLine, setLine, settingLine, removalLine, changeLine, groupLines, changeLines}
 use Rattle.listing.specs.Listing.{settingLines, logText, settingsText, answerText, listing}
@@ -53,8 +53,36 @@ use Rattle.test_pages.specs.Table.{Journal, steps}
 use Rattle.test_pages.specs.Table
 use Rattle.test_pages.specs.Tied.{Tells, GoesWith, Tied}
 use Rattle.test_pages.proofs.Tied.{unformatted, unerased, long, zero-bytes, formatted-tells, shown}
-use Rattle.listed_history.specs.Examples.{Sized, afterAppend, afterBuffer, twoSet, oneRemoved, oneSet}
+use Rattle.listed_history.specs.Examples.{Sized, AllSized, afterAppend, afterBuffer, twoSet, oneRemoved, oneSet}
 use Rattle.listed_history.specs.Examples.{setAndRemoved, zeroAndRemoved, PrintedAfterFormat, PrintedUnformatted}
+
+-- ---- the groups
+
+two-small : (k x y : ℕ) → x < k → y < k → Below k (x ∷ y ∷ [])
+two-small k x y h l = below-cons h (below-cons l (below-nil (omega arith)))
+
+one-small : (k x : ℕ) → x < k → Below k (x ∷ [])
+one-small k x h = below-cons h (below-nil (omega arith))
+
+pub all-sized : AllSized
+unfolding keysOf wordsOf
+all-sized =
+    record {
+      two-set = record {
+        keys = two-small (2 ^ 16) 5 7 (omega arith) (omega arith);
+        words = two-small (2 ^ 64) 1000 20 (omega arith) (omega arith);
+      };
+      one-removed = record { keys = one-small (2 ^ 16) 32773 (omega arith); words = one-small (2 ^ 64) 0 (omega arith) };
+      one-set = record { keys = one-small (2 ^ 16) 5 (omega arith); words = one-small (2 ^ 64) 1000 (omega arith) };
+      set-and-removed = record {
+        keys = two-small (2 ^ 16) 7 32773 (omega arith) (omega arith);
+        words = two-small (2 ^ 64) 20 0 (omega arith) (omega arith);
+      };
+      zero-and-removed = record {
+        keys = two-small (2 ^ 16) 5 32768 (omega arith) (omega arith);
+        words = two-small (2 ^ 64) 0 0 (omega arith) (omega arith);
+      };
+    }
 
 -- ---- a journal goes with its world
 

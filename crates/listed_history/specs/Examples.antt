@@ -47,6 +47,14 @@ setAndRemoved = cell 7 20 ∷ cell 32773 0 ∷ []
 abbrev pub zeroAndRemoved : List Entry
 zeroAndRemoved = cell 5 0 ∷ cell 32768 0 ∷ []
 
+-- all of these are
+pub record AllSized : Type 0 where
+  pub two-set : Sized twoSet
+  pub one-removed : Sized oneRemoved
+  pub one-set : Sized oneSet
+  pub set-and-removed : Sized setAndRemoved
+  pub zero-and-removed : Sized zeroAndRemoved
+
 -- What `morning` prints after calls from world w on: none; "{5→1000, 7→20}, {remove 5}"; a word 0, and the removal of valve 0; and two
 -- groups on one page of kind 4.
 pub record Printed (w : World) : Type 0 where

@@ -18,13 +18,13 @@ use trials::VALVES;
 fn say(text: &[u8], calls: &[u64]) {
     let mut m = [255u8; 16384];
     let t = trials::play(&mut m, calls);
-    show::answer(text, t.number);
+    print::answer(text, t.number);
 }
 
 // 1: a medium of three blocks.
 fn three_blocks() {
     let b = begin::format(&[255u8; 12288]);
-    show::answer(b"1 12288 bytes: ", b.number);
+    print::answer(b"1 12288 bytes: ", b.number);
 }
 
 // 2 to 4. Page 0 of a formatted medium is the empty base with serial 1.
@@ -54,7 +54,7 @@ fn other_medium() {
     let mut m = [255u8; 16384];
     let t = trials::play(&mut m, &[FORMATTED]);
     let b = journal_c::vj_commit(&[255u8; 20480], t.state, &[255u8; 256]);
-    show::answer(b"7 state of 4 blocks, medium of 5: ", b.number);
+    print::answer(b"7 state of 4 blocks, medium of 5: ", b.number);
 }
 
 // 8 to 10.
@@ -104,7 +104,7 @@ fn short_lists() {
     let mut m = [255u8; 16384];
     trials::play(&mut m, &[FORMATTED, APPENDED, 3, 5, 7, 5, 1000, 20, 30]);
     let r = filing::log(&m, &mut [0u16; 3], &mut [0u64; 3], &mut [0u32; 2]);
-    show::answer(b"17 3 changes, 2 places: ", r.number);
+    print::answer(b"17 3 changes, 2 places: ", r.number);
 }
 
 // 18: a valve that is not set.
@@ -112,7 +112,7 @@ fn unset_valve() {
     let mut m = [255u8; 16384];
     let t = trials::play(&mut m, &[FORMATTED]);
     let r = read::opening(&m, t.state, 5);
-    show::answer(b"18 valve 5 after format: ", r.number);
+    print::answer(b"18 valve 5 after format: ", r.number);
 }
 
 // What a span of the log did, after a list of calls.
@@ -120,7 +120,7 @@ fn say_effect(text: &[u8], calls: &[u64], first: u32, second: u32) {
     let mut m = [255u8; 16384];
     trials::play(&mut m, calls);
     let r = spans::effect(&m, first, second);
-    show::answer(text, r.number);
+    print::answer(text, r.number);
 }
 
 // 21: ends out of order, an end past the log. 22: 192 valves set, one removed and another set.
@@ -170,10 +170,10 @@ fn buffers() {
 // Whether a trace has the form; 26 is its negation.
 fn say_form(text: &[u8], t: &[u8]) {
     if trace::is_well_formed(t) {
-        show::answer(text, 0);
+        print::answer(text, 0);
         return;
     }
-    show::answer(text, 26);
+    print::answer(text, 26);
 }
 
 // 26: the trace of one call, a format of 4 blocks, with a byte after it; and of 3 blocks.
