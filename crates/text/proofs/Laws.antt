@@ -68,7 +68,7 @@ copy-none out n s h =
 
 -- ---- one text behind the other
 
-take-cut : (k : ℕ) (xs ys : List ℕ) → take k (take k xs ++ ys) ≡ take k (xs ++ ys)
+pub take-cut : (k : ℕ) (xs ys : List ℕ) → take k (take k xs ++ ys) ≡ take k (xs ++ ys)
 take-cut zero xs ys = refl
 take-cut (suc k) [] ys = refl
 take-cut (suc k) (x ∷ xs) ys = ap (λ (t : List ℕ). x ∷ t) (take-cut k xs ys)

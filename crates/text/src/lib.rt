@@ -3,6 +3,7 @@ ghost use Prim.Native.Nat.{min};
 ghost use mathlib.Core.Path.{_≡_};
 ghost use mathlib.Core.List.{_++_};
 ghost use Rattle.text.specs.Text.{ascii, decimal, Puts};
+ghost use Rattle.text.specs.Window.{Shows};
 
 // The lesser of two lengths.
 fn least(a: usize, b: usize) -> usize
@@ -46,4 +47,27 @@ pub fn line(out: &mut [u8], n: usize, word: &[u8], x: u64) -> usize
     let a = put(out, n, word);
     let b = number(out, a, x);
     put(out, b, b"\n")
+}
+
+// How far a window on a text is filled: how many bytes of the text still come before it, and how many bytes of it are there.
+pub struct WindowState {
+    pub skip: usize,
+    pub filled: usize,
+}
+
+// The next piece of a text that is seen through a window: what lies before the window is skipped, what lies in it is put into the list, as far as
+// that is long.
+pub fn put_in_window(out: &mut [u8], w: WindowState, s: &[u8]) -> WindowState
+    ensures { λ r. ⌜ Shows (now (out .entry)) w (now (s .entry)) (now (out .exit)) r ⌝ }
+{
+    let skip = w.skip;
+    let filled = w.filled;
+    if s.len() <= skip {
+        return WindowState {
+            skip: skip - s.len(),
+            filled: filled,
+        };
+    }
+    let n = put(out, filled, &s[skip..]);
+    WindowState { skip: 0, filled: n }
 }
