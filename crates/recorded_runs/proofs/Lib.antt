@@ -3,6 +3,7 @@ pub mod Formats
 pub mod Prints
 pub mod Form
 pub mod Whole
+pub mod Text
 pub mod OfCode
 pub mod Runs
 pub mod Reaches

@@ -1,4 +1,5 @@
 pub mod Recorded
+pub mod Text
 pub mod OfCode
 pub mod Reaches
 pub mod Events

@@ -1,7 +1,7 @@
 -- Paper 13, of the code: a program asks whether a trace has the form, plays its calls in turn, and prints the lines that it is handed. Each answer is
--- known by its promise alone, the very text of its function's `ensures`, and only where what the function asks, its `requires`, is met. Reading standard
--- input, the program's loop over the calls and the printing of a line as text stand outside of this statement: `PlaysOn` and `Reruns` say what such a program
--- does, and tests/tests/rerun.rs runs it.
+-- known by its promise alone, the very text of its function's `ensures`, and only where what the function asks, its `requires`, is met: `PlaysOn` and
+-- `Reruns` say what such a program does. Reading standard input stands outside of this statement; the loop of `rerun` over the calls and the text that it
+-- prints have promises of their own (`run_text::window`).
 use mathlib.Core.Path.{_≡_}
 use mathlib.Core.Bool.{Bool, true, false}
 use mathlib.Core.List.{List, [], _∷_, _++_}

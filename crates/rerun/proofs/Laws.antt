@@ -1,74 +1,95 @@
--- What the loop over the calls of a trace needs.
-use mathlib.Core.Path.{_≡_, sym, _∙_}
-use mathlib.Core.Bool.{Bool, true, false, not}
+-- Laws of the loop that prints a text part by part.
+use mathlib.Core.Path.{_≡_, refl, sym, ap, _∙_}
+use mathlib.Core.Bool.{true, false}
 use mathlib.Core.List.{List}
-use Prim.Native.Nat.{ℕ, _+_, _*_, _≤_, _<_}
+use Prim.Native.Nat.{ℕ, _+_, _-_, _≤_, _<_}
 use native.Mathlib.Omega.{arith}
+use native.Mathlib.Decide.{decLe}
 use mir.Val.{Fits}
 use mir.Syntax.{w64}
-use lib.ListN.{length, take}
-use lib.Seq.{length-take-le}
-use borrow.Author.Tests.{not-false}
-use Rattle.page.specs.Buffer.{bufferBytes}
-use Rattle.trace.specs.Trace.{callCount, codeAt, numberAt, dataSize, wellFormed}
-use Rattle.trace.specs.Read.{Listed, HasCall}
-use Rattle.trace.proofs.Laws.{Summed, sum-start, start-next}
-use Rattle.trace.proofs.Form.{formed-lists, formed-call, blocks-high}
-use Rattle.cut_patterns.specs.Struck.{mostBytes}
-use Rattle.player.specs.Played.{Playable}
+use lib.ListN.{length, take, drop}
+use lib.Seq.{length-take-le, take-all}
+use Rattle.lists.proofs.Laws.{true-false}
+use Rattle.text.specs.Text.{Holds}
+use Rattle.text.specs.Window.{window}
+use Rattle.text.proofs.Window.{length-window}
+use Rattle.run_text.specs.Running.{mostText, Sees}
+use Rattle.rerun.specs.declared.Printed.{Printed}
+use Rattle.rerun.specs.Printed.{PartAt, PrintsAll}
 
-module _ (t : List ℕ) (w : wellFormed t ≡ true) where
-  pub calls-listed : Listed t
-  calls-listed = formed-lists t w
+-- a window is as long as it is
+window-itself : (from size : ℕ) (text : List ℕ) → window from (length (window from size text)) text ≡ window from size text
+unfolding window
+window-itself from size text = go (decLe size (length (drop from text)))
+  where
+    go : Dec (size ≤ length (drop from text)) → window from (length (window from size text)) text ≡ window from size text
+    go (yes h) = ap (λ (k : ℕ). take k (drop from text)) (length-take-le size (drop from text) h)
+    go (no h) =
+        let l : length (drop from text) ≤ size = omega arith in
+        let e = take-all size (drop from text) l in
+        ap (λ (k : ℕ). take k (drop from text)) (ap length e) ∙ take-all (length (drop from text)) (drop from text) (omega arith) ∙ sym e
 
-  module _ (n : ℕ) (e : n ≡ callCount t) where
-    pub calls-times : Fits w64 (16 * n)
-    calls-times = let l = formed-lists t w in omega (arith, l .long, l .room)
+module _ (text : List ℕ) (from : ℕ) (out : List ℕ) (k : ℕ) (s : Sees text from out k) where
+  length-is : k ≡ length (window from (length out) text)
+  length-is = s .holds .part ∙ ap length (s .holds .is)
 
-    pub calls-first : Fits w64 (8 + 16 * n)
-    calls-first = let l = formed-lists t w in omega (arith, l .long, l .room)
+  pub part-seen : PartAt text from (take k out)
+  part-seen =
+      let e = s .holds .is in
+      record { is = e ∙ sym (window-itself from (length out) text) ∙ ap (λ (j : ℕ). window from j text) (ap length (sym e)) }
 
-    pub calls-start : Summed t 0 (8 + 16 * n)
-    calls-start = sum-start t n e (formed-lists t w)
+-- so many bytes of a text were printed
+pub record Printing (text m₀ b₀ out₀ m b out : List ℕ) (from : ℕ) : Type 0 where
+  pub far : from ≤ length text
+  pub low : from ≤ mostText
+  pub medium : length m ≡ length m₀
+  pub buffer : length b ≡ length b₀
+  pub long : length out ≡ length out₀
 
-    module _ (i at : ℕ) (h : i < n) (s : Summed t i at) where
-      pub calls-has : HasCall t i
-      calls-has = formed-call t w i (omega arith)
+pub printing-start : (text m b out : List ℕ) → Printing text m b out m b out 0
+printing-start text m b out = record { far = omega arith; low = omega arith; medium = refl; buffer = refl; long = refl }
 
-      pub calls-playable : (m b : List ℕ) → length m ≤ mostBytes → length b ≡ bufferBytes → Playable t i at m b
-      calls-playable m b p q = record { has = calls-has; start = s .so; small = p; lent = q }
+module _ (text m₀ b₀ out₀ m b out : List ℕ) (from : ℕ) (P : Printing text m₀ b₀ out₀ m b out from) where
+  pub printing-medium : length m ≡ length m₀
+  printing-medium = P .medium
 
-      module _ (x : ℕ) (q : x ≡ dataSize (codeAt t i) (numberAt t i)) where
-        pub calls-next : Summed t (i + 1) (at + x)
-        calls-next =
-            let d = start-next t i in
-            record { far = omega arith; so = omega (arith, s .so); room = omega (arith, s .so, calls-has .bytes) }
+  pub printing-buffer : length b ≡ length b₀
+  printing-buffer = P .buffer
 
-        pub calls-fits : Fits w64 (at + x)
-        calls-fits = let k = calls-next .room in omega (arith, formed-lists t w .long)
+  pub printing-long : length out ≡ length out₀
+  printing-long = P .long
 
--- ---- the medium
+  module _ (out′ : List ℕ) (k : ℕ) (s : Sees text from out′ k) where
+    pub printing-fits : Fits w64 (from + k)
+    printing-fits = let l = P .low in let h = s .low in omega arith
 
-module _ (t : List ℕ) (r : Bool) (e : r ≡ wellFormed t) (h : not r ≡ false) where
-  pub formed : wellFormed t ≡ true
-  formed = sym e ∙ not-false r h
+    pub printing-end : k < length out′ → PrintsAll text (record { failed = false; count = from + k })
+    printing-end h = let f = P .far in record { all = λ e. omega (arith, length-is text from out′ k s, length-window from (length out′) text) }
 
-  pub trace-listed : Listed t
-  trace-listed = formed-lists t formed
+    module _ (h : length out′ ≤ k) where
+      pub printing-next : (m′ b′ : List ℕ) → length m′ ≡ length m → length b′ ≡ length b → length out′ ≡ length out
+          → Printing text m₀ b₀ out₀ m′ b′ out′ (from + k)
+      printing-next m′ b′ lm lb lo =
+          let f = P .far in
+          let l = P .low in
+          let g = s .low in
+          record {
+            far = omega (arith, length-is text from out′ k s, length-window from (length out′) text);
+            low = omega arith;
+            medium = lm ∙ P .medium;
+            buffer = lb ∙ P .buffer;
+            long = lo ∙ P .long;
+          }
 
-  pub trace-some : 0 < callCount t
-  trace-some = trace-listed .some
+      pub printing-less : 0 < length out₀ → length out′ ≡ length out → length text - (from + k) < length text - from
+      printing-less o lo =
+          let f = P .far in
+          let l = P .long in
+          omega (arith, length-is text from out′ k s, length-window from (length out′) text)
 
-  module _ (n : ℕ) (q : n ≡ numberAt t 0) where
-    pub size-fits : Fits w64 (4096 * n)
-    size-fits = let k = blocks-high t formed in omega arith
+pub printing-failed : (text : List ℕ) (n : ℕ) → PrintsAll text (record { failed = true; count = n })
+printing-failed text n = record { all = λ e. true-false refl e }
 
-    module _ (z : List ℕ) (l : 65536 ≡ length z) where
-      pub size-room : 4096 * n ≤ length z
-      size-room = let k = blocks-high t formed in omega arith
-
-      pub size-part : 4096 * n ≡ length (take (4096 * n) z)
-      size-part = sym (length-take-le (4096 * n) z size-room)
-
-      pub size-small : length (take (4096 * n) z) ≤ mostBytes
-      size-small = let k = blocks-high t formed in omega (arith, size-part)
+-- the list that is lent for the parts is not empty
+pub some-room : (n : ℕ) → 524288 ≡ n → 0 < n
+some-room n e = omega arith

@@ -1,86 +1,64 @@
-// Reads a trace of at most 65536 bytes from standard input, plays its calls in turn and prints the lines of each; `refused 26` alone where the trace
-// breaks the form.
+// Reads a trace of at most 65536 bytes from standard input and prints the text of its run; `refused 26` alone where it breaks the form, as one of more bytes
+// does. What is printed is `runText` of what was read, part after part, and one byte past 65536 is read to tell that there are more. Where reading or writing
+// fails that is told on standard error, and after a failed read nothing is printed.
 ghost use mathlib.Core.Path.{_≡_};
-ghost use mathlib.Core.Bool.{true};
-ghost use Prim.Native.Nat.{_≤_};
+ghost use Prim.Native.Nat.{_<_};
 ghost use lib.ListN.{length};
 ghost use Rattle.page.specs.Buffer.{bufferBytes};
-ghost use Rattle.trace.specs.Trace.{wellFormed};
-ghost use Rattle.cut_patterns.specs.Struck.{mostBytes};
-ghost use Rattle.player.specs.Played.{FewSet};
-use player::Reply;
-use reply_lines::PrintedLine;
+ghost use Rattle.run_text.specs.RunText.{runText};
+ghost use Rattle.rerun.specs.Printed.{PartAt, PrintsAll};
 
-// A line.
-fn print(l: PrintedLine) {
-    if l.kind == reply_lines::REFUSAL {
-        show::line(b"refused ", l.first);
-        return;
-    }
-    if l.kind == reply_lines::LOG_LENGTH {
-        show::line(b"log ", l.first);
-        return;
-    }
-    if l.kind == reply_lines::VALVES_SET {
-        show::line(b"set ", l.first);
-        return;
-    }
-    show::number(l.first);
-    show::line(b" ", l.second);
+// How much of a text was printed: whether a write failed, and how many bytes were written before it.
+pub struct Printed {
+    pub failed: bool,
+    pub count: usize,
 }
 
-// The lines of a reply.
-fn lines(m: &[u8], r: Reply)
-    requires { ⌜ FewSet r ⌝ }
+// Bytes of the text of a trace on standard output, of which those before this place were written; whether they were written.
+fn write_part(t: &[u8], from: usize, part: &[u8]) -> bool
+    requires { ⌜ PartAt (runText (now t)) from (now part) ⌝ }
 {
-    let n = reply_lines::line_count(r);
-    let mut k: usize = 0;
-    while k < n {
-        print(reply_lines::line(m, r, k));
-        k += 1;
-    }
+    streams::write(part)
 }
 
-// The calls of a trace in turn, to the last or to one that ends the run.
-fn calls(t: &[u8], m: &mut [u8], b: &mut [u8])
-    requires { ⌜ (wellFormed (now t) ≡ true) × (length (now m) ≤ mostBytes) × (length (now b) ≡ bufferBytes) ⌝ }
+// The text of a trace, window after window: the trace is played from its start for each, on a medium and with a buffer that are lent for that.
+fn print(t: &[u8], m: &mut [u8], b: &mut [u8], out: &mut [u8]) -> Printed
+    requires { ⌜ (length (now m) ≡ 65536) × (length (now b) ≡ bufferBytes) × (0 < length (now out)) ⌝ }
+    ensures { λ r. ⌜ PrintsAll (runText (now (t .entry))) r ⌝ }
 {
-    let count = trace::count(t);
-    let mut last = player::start(m, b);
-    let mut at = 8 + 16 * count;
-    let mut i: usize = 0;
-    while i < count {
-        let r = player::play(t, i, at, m, b, last);
-        lines(m, r);
-        if r.ends {
-            return;
+    let mut from: usize = 0;
+    loop {
+        let k = run_text::window(t, from, m, b, out);
+        if !write_part(t, from, &out[..k]) {
+            return Printed {
+                failed: true,
+                count: from,
+            };
         }
-        last = r.last;
-        at += trace::data_size(t, i);
-        i += 1;
+        from += k;
+        if k < out.len() {
+            return Printed {
+                failed: false,
+                count: from,
+            };
+        }
     }
 }
 
 // A trace.
 fn rerun(t: &[u8]) {
-    if !trace::is_well_formed(t) {
-        show::refused(26);
-        return;
-    }
-    let blocks = trace::number(t, 0) as usize;
-    let size = 4096 * blocks;
-    let mut m = io::large_buffer();
+    let mut m = [0u8; 65536];
     let mut b = [0u8; 256];
-    calls(t, &mut m[..size], &mut b);
+    let mut out = [0u8; 524288];
+    print(t, &mut m, &mut b, &mut out);
 }
 
 fn main() {
-    let mut t = io::large_buffer();
-    let n = io::read_full(0, &mut t);
-    let mut more = [0u8; 1];
-    if io::read_full(0, &mut more) != 0 {
-        show::refused(26);
+    let mut t = [0u8; 65537];
+    let r = streams::read(&mut t);
+    if r.failed {
         return;
     }
+    let n = r.count;
     rerun(&t[..n]);
 }
