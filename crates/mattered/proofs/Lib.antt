@@ -3,4 +3,5 @@ pub mod Sorted
 pub mod Meant
 pub mod Bounds
 pub mod Log
+pub mod Along
 pub mod Lists
