@@ -139,7 +139,7 @@ held-plays m b m′ b′ l c r x p q f =
 -- what is printed of a step
 unfoldable linesDone : Option outcomes.Done → List Line
 linesDone none = []
-linesDone (some (outcomes.Done.refused n s)) = Line.refusal n ∷ []
+linesDone (some (outcomes.Done.refused x)) = Line.refusal (x .number) ∷ []
 linesDone (some (outcomes.page p finished after)) = []
 linesDone (some (outcomes.block b finished after)) = []
 
