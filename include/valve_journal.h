@@ -307,7 +307,7 @@ typedef struct VjNext {
 /* What vj_format, vj_append, vj_commit, vj_collect and vj_flush answer. */
 typedef struct VjBegun {
     uint8_t number; /* 0, or the number of the refusal */
-    VjState state;  /* the state with the operation pending; on a refusal every field as given; where vj_format refuses it means nothing */
+    VjState state;  /* the state with the operation pending; on a refusal every field as given; where vj_format refuses, 0 in every place */
 } VjBegun;
 
 /* The values of VjStepped.touched. */

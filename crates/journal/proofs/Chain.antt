@@ -256,7 +256,7 @@ answers-finished x y (Moves.step m m′ s b b′ r p) = steps-finished m m′ s 
 -- ---- lists of events
 
 pub formats : (m : List ℕ) (r : Begun) → begun.Formats m r → r .number ≡ 0 → formatOf (length m) ≡ gives (meaning (r .state))
-formats m r e q = sym e ∙ answered-gives (r .number) (meaning (r .state)) q
+formats m r e q = sym (e .is) ∙ answered-gives (r .number) (meaning (r .state)) q
 
 -- what the world comes to, the machine comes to
 there : (P : World → Type 0) (x y : Machine) (e : Event (worldOf x)) → Moves x e y → P (happen (worldOf x) e .after) → P (worldOf y)

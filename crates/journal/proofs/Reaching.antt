@@ -149,7 +149,9 @@ formats-to w (reached.Formatting.begun m s b bytes e) =
     record {
       x = machine m (some (stateOf s)) b;
       is = ap (λ (h : Held). world m (some h) b) same;
-      under-way = Formatting.begun m (record { number = 0; state = stateOf s }) b bytes (answered-gives 0 (meaning (stateOf s)) refl ∙ ap gives same ∙ sym e) refl;
+      under-way =
+          Formatting.begun m (record { number = 0; state = stateOf s }) b bytes
+          (record { is = answered-gives 0 (meaning (stateOf s)) refl ∙ ap gives same ∙ sym e; back = λ z. absurd (z refl) }) refl;
       weak = λ k. true;
       kept = subst (Guard (λ k. true)) (sym same) G;
     }
