@@ -220,7 +220,7 @@ typedef struct VjRecovered {
 /* What vj_log, vj_mattered and vj_settings answer. */
 typedef struct VjCount {
     uint8_t number; /* 0, or the number of the refusal */
-    size_t count;   /* how many changes the log has, how many groups mattered, or how many valves are set; on a refusal it means nothing */
+    size_t count;   /* how many changes the log has, how many groups mattered, or how many valves are set; on a refusal 0 */
 } VjCount;
 
 /* A place in the log: what a program keeps between two calls of vj_change, and all that it needs of the log. Its numbers are the library's. */
@@ -252,7 +252,7 @@ typedef struct VjNews {
 /* What vj_effect answers. */
 typedef struct VjEffect {
     uint8_t number; /* 0, or the number of the refusal */
-    VjCells cells;  /* the effect: keys as stored and words, ascending by valve, at most VJ_MOST_VALVES; on a refusal they mean nothing */
+    VjCells cells;  /* the effect: keys as stored and words, ascending by valve, at most VJ_MOST_VALVES; on a refusal their count is 0 */
 } VjEffect;
 
 /* A part of the medium. */
@@ -264,7 +264,7 @@ typedef struct VjPart {
 /* What vj_opening answers. */
 typedef struct VjWord {
     uint8_t number; /* 0, or the number of the refusal */
-    uint64_t word;  /* the valve's word; on a refusal it means nothing */
+    uint64_t word;  /* the valve's word; on a refusal 0 */
 } VjWord;
 
 /* What vj_word answers: where the eight bytes of a valve's word stand, little-endian. */
@@ -278,8 +278,8 @@ typedef struct VjWordPlace {
 /* What vj_pick answers. */
 typedef struct VjPick {
     uint8_t number; /* 0, or the number of the refusal */
-    uint8_t found;  /* 1 exactly where a block is picked */
-    uint64_t block; /* the block, from 0; where none is picked it means nothing */
+    uint8_t found;  /* 1 exactly where a block is picked; on a refusal 0 */
+    uint64_t block; /* the block, from 0; where none is picked 0 */
 } VjPick;
 
 /* What vj_survey answers. */
@@ -292,7 +292,7 @@ typedef struct VjSurvey {
 /* What vj_available answers. */
 typedef struct VjPages {
     uint8_t number; /* 0, or the number of the refusal */
-    uint64_t pages; /* how many pages; on a refusal it means nothing */
+    uint64_t pages; /* how many pages; on a refusal 0 */
 } VjPages;
 
 /* A valve and its word. */
@@ -318,7 +318,7 @@ typedef struct VjNext {
 /* What vj_format, vj_append, vj_commit, vj_collect and vj_flush answer. */
 typedef struct VjBegun {
     uint8_t number; /* 0, or the number of the refusal */
-    VjState state;  /* the state with the operation pending; on a refusal every field as given; where vj_format refuses it means nothing */
+    VjState state;  /* the state with the operation pending; on a refusal every field as given; where vj_format refuses, 0 in every place */
 } VjBegun;
 
 /* The values of VjStepped.touched. */
@@ -330,9 +330,9 @@ enum {
 /* What vj_step answers. */
 typedef struct VjStepped {
     uint8_t number;   /* 0, or the number of the refusal */
-    uint8_t touched;  /* VJ_PAGE or VJ_BLOCK; on a refusal it means nothing */
-    uint8_t finished; /* 1 exactly where the operation is finished; on a refusal it means nothing */
-    uint64_t at;      /* the number of the page or the block in the medium, from 0; on a refusal it means nothing */
+    uint8_t touched;  /* VJ_PAGE or VJ_BLOCK; on a refusal 0 */
+    uint8_t finished; /* 1 exactly where the operation is finished; on a refusal 0 */
+    uint64_t at;      /* the number of the page or the block in the medium, from 0; on a refusal 0 */
     VjState state;    /* the state after the step; on a refusal every field as given */
 } VjStepped;
 

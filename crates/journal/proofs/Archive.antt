@@ -13,7 +13,7 @@ use Rattle.lists.specs.declared.Cell.{Cell}
 use Rattle.lists.specs.Lists.{every}
 use Rattle.lists.specs.Needs.{Answer, refused, gives, andThen, under}
 use Rattle.lists.specs.Cells.{cell, Entry, Setting, pairs, keysOf, wordsOf, listed}
-use Rattle.lists.proofs.Laws.{by-cases, true-false, tests, length-pairs, get-pairs, length-keys, length-words, key-at, word-at, answered-gives, gave-value, gave-number, given-refused}
+use Rattle.lists.proofs.Laws.{by-cases, true-false, tests, length-pairs, get-pairs, length-keys, length-words, key-at, word-at, gave-number}
 use Rattle.codec.specs.Codec.{putAt}
 use Rattle.page.specs.Pages.{changesOf}
 use Rattle.flash.specs.Medium.{views}
@@ -76,14 +76,14 @@ module _ (c : Counted) (ks ws ks′ ws′ : List ℕ) (rest rest′ more : List 
       → pairs (c .count) ks′ ws′ ≡ es
   unfolding leaving putInto
   filed-long e =
-      let n : c .count ≡ length es = gave-value (c .number) (c .count) (length es) (ap (λ (x : Left). x .answer) e) in
+      let n : c .count ≡ length es = ap (λ (x : Left). x .answer .count) e in
       let k : ks′ ≡ putAt ks 0 (keysOf es) = ap (λ (x : Left). getD (x .lists) 0 []) e in
       let w : ws′ ≡ putAt ws 0 (wordsOf es) = ap (λ (x : Left). getD (x .lists) 1 []) e in
       rw (n, k, w) (cells-back ks ws es)
 
   filed-short : leftBy c (ks′ ∷ ws′ ∷ rest′) ≡ leaving (ks ∷ ws ∷ rest) (refused 17) → c .number ≡ 0 → pairs (c .count) ks′ ws′ ≡ es
   unfolding leaving
-  filed-short e z = given-refused (c .count) 17 (sym (answered-gives (c .number) (c .count) z) ∙ ap (λ (x : Left). x .answer) e)
+  filed-short e z = let y : c .number ≡ 17 = ap (λ (x : Left). x .answer .number) e in absurd (omega arith)
 
   filed-back : leftBy c (ks′ ∷ ws′ ∷ rest′) ≡ leaving (ks ∷ ws ∷ rest) (filedInto (ks ∷ ws ∷ rest) (length es) (keysOf es ∷ wordsOf es ∷ more))
       → c .number ≡ 0 → pairs (c .count) ks′ ws′ ≡ es

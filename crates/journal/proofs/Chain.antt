@@ -26,7 +26,7 @@ use Rattle.recover.specs.declared.Recovered.{Recovered}
 use Rattle.recover.specs.Recovers.{Recovers}
 use Rattle.readings.specs.Readings.{filedLog, readLog, filedSettings, readSettings, openingOf, pickOf}
 use Rattle.filing.specs.Filed.{leaving}
-use Rattle.read.specs.Answers.{wordOr6}
+use Rattle.read.specs.Answers.{opened, wordOr6}
 use Rattle.calls.specs.Calls.{formatOf, bufferNeeds, bufferOf}
 use Rattle.step.specs.Step.{Step, mediumAfter, bufferAfter}
 use Rattle.begin.specs.declared.Begun.{Begun}
@@ -67,7 +67,7 @@ fills m s b t (gives c) r b′ e = ap (λ (x : begun.Filled). world m (some (mea
 -- what the state holds after what a step's answer says
 unfoldable heldAfter : Held → Option outcomes.Done → Held
 heldAfter h none = h
-heldAfter h (some (outcomes.Done.refused n s)) = meaning s
+heldAfter h (some (outcomes.Done.refused x)) = meaning (x .state)
 heldAfter h (some (outcomes.page p finished after)) = after
 heldAfter h (some (outcomes.block b finished after)) = after
 
@@ -160,13 +160,13 @@ fills-told w b t (gives c) r b′ k e = let z : r ≡ 0 = ap (λ (x : begun.Fill
 -- what a step's answer says, of what was touched and whether it finished
 unfoldable toldDone : Option outcomes.Done → Told
 toldDone none = unchanged
-toldDone (some (outcomes.Done.refused n s)) = unchanged
+toldDone (some (outcomes.Done.refused x)) = unchanged
 toldDone (some (outcomes.page p finished after)) = steppedPage
 toldDone (some (outcomes.block b finished after)) = steppedBlock
 
 unfoldable finishedDone : Option outcomes.Done → Bool
 finishedDone none = false
-finishedDone (some (outcomes.Done.refused n s)) = false
+finishedDone (some (outcomes.Done.refused x)) = false
 finishedDone (some (outcomes.page p finished after)) = finished
 finishedDone (some (outcomes.block b finished after)) = finished
 
@@ -256,7 +256,7 @@ answers-finished x y (Moves.step m m′ s b b′ r p) = steps-finished m m′ s 
 -- ---- lists of events
 
 pub formats : (m : List ℕ) (r : Begun) → begun.Formats m r → r .number ≡ 0 → formatOf (length m) ≡ gives (meaning (r .state))
-formats m r e q = sym e ∙ answered-gives (r .number) (meaning (r .state)) q
+formats m r e q = sym (e .is) ∙ answered-gives (r .number) (meaning (r .state)) q
 
 -- what the world comes to, the machine comes to
 there : (P : World → Type 0) (x y : Machine) (e : Event (worldOf x)) → Moves x e y → P (happen (worldOf x) e .after) → P (worldOf y)
@@ -347,7 +347,7 @@ module _ (m : List ℕ) (h : History) (S : Shows m h) (size : sizeOk (length m) 
         accepted = found-number m (S .log) (S .state) (S .accepts);
         log = λ ks ws ns ks′ ws′ ns′ a p. p ∙ ap (leaving (ks ∷ ws ∷ ns ∷ [])) (log-shown (ks ∷ ws ∷ ns ∷ []));
         settings = λ r p. subst (λ l. Words (views m) l (h .settings)) (sym (ap (λ (x : Held). x .index) (state-is r p))) (S .same-settings);
-        opening = λ r valve a p q. q ∙ ap (λ (x : Held). openingOf (length m) (views m) x valve) (state-is r p) ∙ valve-shown valve;
+        opening = λ r valve a p q. q ∙ ap opened (ap (λ (x : Held). openingOf (length m) (views m) x valve) (state-is r p) ∙ valve-shown valve);
         list = λ r valves ws valves′ ws′ a p q. q ∙ ap (leaving (valves ∷ ws ∷ [])) (list-is r p (valves ∷ ws ∷ []));
       }
     where

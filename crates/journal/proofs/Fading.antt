@@ -24,6 +24,7 @@ use Rattle.log_reader.specs.Reader.{startOf, refusedPlace, over, AskedInTurn}
 use Rattle.log_reader.proofs.FirstToLast.{first-to-last}
 use Rattle.log_reader.proofs.Form.{answers, form-first-to-last}
 use Rattle.spans.specs.Spans.{spanEffect, effectOf}
+use Rattle.spans.specs.Along.{effected}
 use Rattle.mattered.specs.Mattered.{mattered, listedIn, readMattered}
 use Rattle.valve_log.specs.History.{History, history, nothing}
 use Rattle.valve_log.specs.Reached.{World, Event, happen, Earlier, happened, Before, Reached, Shows, Point3}
@@ -149,7 +150,7 @@ module _ (m : List ℕ) (n : ℕ) (among : (4 ≤ n) × (n ≤ 6)) (e : recover 
         number = among;
         recovery = same-number;
         log = λ ks ws ns ks′ ws′ ns′ a p. p ∙ ap (leaving (ks ∷ ws ∷ ns ∷ [])) (no-log (ks ∷ ws ∷ ns ∷ []));
-        effect = λ first second a p. p ∙ (unfold effectOf andThen in ap (λ (x : Answer Recovery). andThen x (λ r. spanEffect first second (r .log))) e);
+        effect = λ first second a p. p ∙ (unfold effectOf andThen in ap (λ (x : Answer Recovery). effected (andThen x (λ r. spanEffect first second (r .log)))) e);
         groups = λ lent lent′ a p. p ∙ ap (leaving (lent ∷ [])) (unfold readMattered andThen in ap (λ (x : Answer Recovery). andThen x (λ r. listedIn lent (mattered (r .log)))) e);
         reader = λ p q. ap (λ (x : LogPlace). x .number) (at-none p q);
         nothing = λ p cs q a. answers (over (first-to-last .none-refused m n (λ z. let k = among .0 in omega arith))) (subst (λ (x : LogPlace). AskedInTurn m x cs) (at-none p q) a);

@@ -21,6 +21,7 @@ use Rattle.step.specs.Step.{Step, stepOf}
 use Rattle.readings.specs.Readings.{availableOf}
 use Rattle.read.specs.declared.Supplied.{Supplied}
 use Rattle.read.specs.Answers.{Supplies}
+use Rattle.read.proofs.Laws.{supplies-answered}
 use Rattle.begin.specs.declared.Begun.{Begun}
 use Rattle.begin.specs.Begun.{Begins}
 use Rattle.operations.specs.declared.Stepped.{Stepped}
@@ -49,11 +50,11 @@ begun-number s (gives h) r B q = gave-number (r .number) (meaning (r .state)) h 
 refused-13 : (s : State) (c : Answer Held) (r : Begun) → Begins s c r → r .number ≡ 13 → c ≡ refused 13
 refused-13 s c r B q = sym (B .is) ∙ answered-refused (r .number) (meaning (r .state)) (λ z. omega arith) ∙ ap refused q
 
-pub supplied : (m : List ℕ) (s : State) (r : Supplied) → Supplies m s r → r .number ≡ 0 → r .pages ≡ available (views m) (s .head)
+pub pages-supplied : (m : List ℕ) (s : State) (r : Supplied) → Supplies m s r → r .number ≡ 0 → r .pages ≡ available (views m) (s .head)
 unfolding availableOf
-supplied m s r e q =
+pages-supplied m s r e q =
     checked-cases (λ (x : Answer ℕ). gives (r .pages) ≡ x → r .pages ≡ available (views m) (s .head)) _ _ (λ n y. given-refused (r .pages) n y) (λ k y. same-given y)
-    (sym (answered-gives (r .number) (r .pages) q) ∙ e)
+    (sym (answered-gives (r .number) (r .pages) q) ∙ supplies-answered m s r e)
 
 -- ---- a step
 
@@ -67,17 +68,17 @@ unfinished (refused n) e = refl
 unfinished (gives (Step.program p pg s f)) e = not-true f e
 unfinished (gives (Step.erase b s f)) e = not-true f e
 
-not-refused : {P : Type 0} (s z : State) (n : ℕ) (t : Answer Step) → isUnfinished t ≡ true → some (Done.refused n z) ≡ some (done s t) → P
+not-refused : {P : Type 0} (s : State) (x : Stepped) (t : Answer Step) → isUnfinished t ≡ true → some (Done.refused x) ≡ some (done s t) → P
 unfolding isUnfinished done
-not-refused s z n (refused k) u e = true-false u refl
-not-refused s z n (gives (Step.program p pg x f)) u e = let y : _≡_ {A = ℕ} 0 1 = cc in absurd (omega arith)
-not-refused s z n (gives (Step.erase b x f)) u e = let y : _≡_ {A = ℕ} 0 1 = cc in absurd (omega arith)
+not-refused s x (refused k) u e = true-false u refl
+not-refused s x (gives (Step.program p pg h f)) u e = let y : _≡_ {A = ℕ} 0 1 = cc in absurd (omega arith)
+not-refused s x (gives (Step.erase b h f)) u e = let y : _≡_ {A = ℕ} 0 1 = cc in absurd (omega arith)
 
 says-more : (s : State) (t : Answer Step) (r : Stepped) → doneOf r ≡ some (done s t) → saysFinished r ≡ finishes t → isUnfinished t ≡ true → (r .number ≡ 0) × (r .finished ≡ false)
 unfolding saysFinished doneOf
 says-more s t r e f u =
     by-cases (eqb (r .number) 0) (λ q. (eqb-true (r .number) 0 q, (rw q at f) ∙ unfinished t u))
-    (λ q. not-refused s (r .state) (r .number) t u (rw q at e))
+    (λ q. not-refused s r t u (rw q at e))
 
 module _ (m : List ℕ) (s : State) (b : List ℕ) (r : Stepped) (m′ b′ : List ℕ) (q : Steps m s b r m′ b′) where
   step-after : worldOf (machine m′ (some (r .state)) b′) ≡ happen (worldOf (machine m (some s) b)) Event.step .after
@@ -204,7 +205,7 @@ module _ (x : Machine) (h : History) (s : State) (ks ws : List ℕ) (M : Answers
         empty = M .empty;
         rests = ap (λ (k : ℕ). pendingOf k (s .progress) (s .group) (s .pages)) (M .rests) ∙ (unfold pendingOf in refl);
         met13 = refused-13 s (appendOf (length (x .medium)) (views (x .medium)) (meaning s) (x .buffer) ks ws) (M .answer) (M .appends) (M .met13);
-        pages = omega (arith, M .pages, supplied (x .medium) s (M .supply) (M .supplies) (M .accepted));
+        pages = omega (arith, M .pages, pages-supplied (x .medium) s (M .supply) (M .supplies) (M .accepted));
         narrow = M .narrow;
         small = M .small;
       }

@@ -20,7 +20,7 @@ use Rattle.calls.specs.Calls.{appendOf, commitOf, collectOf, bufferOf, flushOf,
 use Rattle.step.specs.Step.{Step, stepOf, mediumAfter, bufferAfter}
 use Rattle.readings.specs.Readings.{availableOf}
 use Rattle.read.specs.declared.Supplied.{Supplied}
-use Rattle.read.specs.Answers.{Supplies}
+use Rattle.read.specs.Answers.{supplied, Supplies}
 use Rattle.begin.specs.declared.Begun.{Begun}
 use Rattle.begin.specs.Begun.{Begins, filledBy}
 use Rattle.operations.specs.Answers.{performed}
@@ -37,7 +37,7 @@ use Rattle.journal.specs.Run.{Machine, machine, meant, worldOf, Moves, F
 use Rattle.journal.specs.Housekeeping.{Answers13, ArisesInRun, PossibleOfCode}
 use Rattle.journal.proofs.Chain.{moves, answers-told, answers-meanwhile, answers-finished}
 use Rattle.journal.proofs.Started.{stateOf, state-same, answered}
-use Rattle.journal.proofs.Housekeeping.{supplied}
+use Rattle.journal.proofs.Housekeeping.{pages-supplied}
 use Rattle.journal.proofs.Weak.{moves-kept}
 
 -- ---- an event has an answer, or changes nothing
@@ -149,7 +149,9 @@ formats-to w (reached.Formatting.begun m s b bytes e) =
     record {
       x = machine m (some (stateOf s)) b;
       is = ap (λ (h : Held). world m (some h) b) same;
-      under-way = Formatting.begun m (record { number = 0; state = stateOf s }) b bytes (answered-gives 0 (meaning (stateOf s)) refl ∙ ap gives same ∙ sym e) refl;
+      under-way =
+          Formatting.begun m (record { number = 0; state = stateOf s }) b bytes
+          (record { is = answered-gives 0 (meaning (stateOf s)) refl ∙ ap gives same ∙ sym e; back = λ z. absurd (z refl) }) refl;
       weak = λ k. true;
       kept = subst (Guard (λ k. true)) (sym same) G;
     }
@@ -223,7 +225,7 @@ record Supply (m : List ℕ) (s : State) : Type 0 where
 
 supply-of : (m : List ℕ) (s : State) (c : Answer ℕ) → availableOf (length m) (views m) (meaning s) ≡ c → ((n : ℕ) → c ≡ refused n → ⊥) → Supply m s
 supply-of m s (refused n) q f = absurd (f n refl)
-supply-of m s (gives k) q f = record { supply = record { number = 0; pages = k }; supplies = answered-gives 0 k refl ∙ sym q; accepted = refl }
+supply-of m s (gives k) q f = record { supply = record { number = 0; pages = k }; supplies = (unfold supplied in ap supplied (sym q)); accepted = refl }
 
 module _ (m : List ℕ) (s : State) (b : List ℕ) (h : History) (R : Run (machine m (some s) b) h) (t : Held) (ks ws : List ℕ) (M : Meets13 (worldOf (machine m (some s) b)) h t ks ws) where
   holds : meaning s ≡ t
@@ -256,7 +258,7 @@ module _ (m : List ℕ) (s : State) (b : List ℕ) (h : History) (R : Run (machi
         accepted = supplied-by .accepted;
         pages =
             let a : available (views m) (s .head) ≡ available (views m) (t .head) = ap (λ (k : Held). available (views m) (k .head)) holds in
-            omega (arith, a, M .pages, supplied m s (supplied-by .supply) (supplied-by .supplies) (supplied-by .accepted));
+            omega (arith, a, M .pages, pages-supplied m s (supplied-by .supply) (supplied-by .supplies) (supplied-by .accepted));
         narrow = M .narrow;
         small = M .small;
       }

@@ -50,7 +50,7 @@ module _ (m : List ℕ) (bytes : Bytes m) (F : Finished m) where
   way : (n : ℕ) (x : Machine) → Formatted m n x → n ≤ length m / 4096 → Way n x
   unfolding stepsOn meant
   way n x (Formatted.begun r p) h =
-      let e = p ∙ F .begun in
+      let e = p .is ∙ F .begun in
       record {
         under-way = Formatting.begun m r fresh bytes p (gave-number (r .number) (meaning (r .state)) (F .state) e);
         is = ap (λ (s : Held). world m (some s) fresh) (gave-value (r .number) (meaning (r .state)) (F .state) e);
@@ -231,7 +231,7 @@ module _ (m : List ℕ) (bytes : Bytes m) (F : Finished m) where
         guard = S .guard;
         formatted =
             Formatted.begun (record { number = 0; state = stateOf (F .state) })
-            (answered-gives 0 (meaning (stateOf (F .state))) refl ∙ ap gives (S .is) ∙ sym (F .begun));
+            (record { is = answered-gives 0 (meaning (stateOf (F .state))) refl ∙ ap gives (S .is) ∙ sym (F .begun); back = λ z. absurd (z refl) });
       }
 
   due-accepted : (n : ℕ) (now b : List ℕ) (s : State) → worldOf (machine now (some s) b) ≡ worldAt m bytes F n → n ≤ length m / 4096

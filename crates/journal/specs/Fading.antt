@@ -17,7 +17,7 @@ use Rattle.log_reader.specs.declared.LogReader.{LogReader}
 use Rattle.log_reader.specs.Reader.{startOf, MakesReader, NextInTurn, AskedInTurn, GivesLog}
 use Rattle.spans.specs.declared.SpanEffect.{SpanEffect}
 use Rattle.spans.specs.Spans.{spanEffect}
-use Rattle.spans.specs.Along.{answerOf, Effects}
+use Rattle.spans.specs.Along.{effected, effectedBy, Effects}
 use Rattle.mattered.specs.Mattered.{mattered, listedIn}
 use Rattle.mattered.specs.Listed.{ListsMattered}
 use Rattle.valve_log.specs.History.{History, history, nothing, assignGroups, tell}
@@ -54,7 +54,7 @@ pub record TurnedBack (m : List ℕ) (n : ℕ) : Type 0 where
   pub recovery : (r : Recovered) → Recovers m r → r .number ≡ n
   pub log : (ks ws ns ks′ ws′ ns′ : List ℕ) (a : Counted) → Logs m ks ws ns a ks′ ws′ ns′
       → leftBy a (ks′ ∷ ws′ ∷ ns′ ∷ []) ≡ leaving (ks ∷ ws ∷ ns ∷ []) (refused n)
-  pub effect : (first second : ℕ) (a : SpanEffect) → Effects m first second a → answerOf a ≡ refused n
+  pub effect : (first second : ℕ) (a : SpanEffect) → Effects m first second a → effectedBy a ≡ effected (refused n)
   pub groups : (out out′ : List ℕ) (a : Counted) → ListsMattered m out a out′ → leftBy a (out′ ∷ []) ≡ leaving (out ∷ []) (refused n)
   pub reader : (p : LogPlace) → p ≡ startOf m → p .number ≡ n
   pub nothing : (p : LogPlace) (cs : List ReadChange) → p ≡ startOf m → AskedInTurn m p cs → GivesLog [] [] cs
@@ -68,7 +68,7 @@ pub record HandedAsThen (m then : List ℕ) (g : History) : Type 0 where
   pub same : (a b : Recovered) → Recovers m a → Recovers then b → answered (a .number) (meaning (a .state)) ≡ answered (b .number) (meaning (b .state))
   pub handed : Handed m g
   pub read : ReadOut m g
-  pub effect : (first second : ℕ) (a : SpanEffect) → Effects m first second a → answerOf a ≡ spanEffect first second (g .log)
+  pub effect : (first second : ℕ) (a : SpanEffect) → Effects m first second a → effectedBy a ≡ effected (spanEffect first second (g .log))
   pub groups : (out out′ : List ℕ) (a : Counted) → ListsMattered m out a out′ → leftBy a (out′ ∷ []) ≡ leaving (out ∷ []) (listedIn out (mattered (g .log)))
 
 -- "recovery refuses, or it gives the settings and log that recovery gave or would have given at that or an earlier moment since formatting ended"

@@ -11,7 +11,7 @@ use Rattle.recover.specs.declared.Recovered.{Recovered}
 use Rattle.recover.specs.Recovers.{Recovers}
 use Rattle.spans.specs.declared.SpanEffect.{SpanEffect}
 use Rattle.spans.specs.Spans.{spanEffect}
-use Rattle.spans.specs.Along.{answerOf, Effects}
+use Rattle.spans.specs.Along.{effected, effectedBy, Effects}
 use Rattle.valve_log.specs.History.{History}
 use Rattle.valve_log.specs.Reached.{Words}
 use Rattle.valve_log.specs.SinceCommit.{settingsAtCommit, lastCommittedBefore}
@@ -26,7 +26,7 @@ lastCommittedIn x h (Run.takenOver {w = w} {h = k} b) = lastCommittedBefore w k 
 -- Whatever the effect's call and recovery answer, of which nothing is known but the promise: the call answers of the history's log, so that 1 to 6 never
 -- refuse it; and what it answers of the whole log, where that is not 22, laid on some settings gives recovery's valves, each with the word at its address.
 pub record EffectTold (m : List ℕ) (h : History) (before : List Setting) : Type 0 where
-  pub of-log : (first second : ℕ) (a : SpanEffect) → Effects m first second a → answerOf a ≡ spanEffect first second (h .log)
+  pub of-log : (first second : ℕ) (a : SpanEffect) → Effects m first second a → effectedBy a ≡ effected (spanEffect first second (h .log))
   pub whole : (a : SpanEffect) (r : Recovered) → Effects m 0 (length (h .log)) a → Recovers m r → (a .number ≡ 22 → ⊥)
       → Words (views m) (listed (r .state .index)) (assignAll before (listed (a .cells)))
 

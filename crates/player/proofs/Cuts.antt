@@ -55,7 +55,7 @@ module _ (m₀ m : List ℕ) (i : ℕ) (p : Putting m₀ 0 (blank (length m₀))
 -- by what the answer of a step says
 unfoldable struckDone : List ℕ → List ℕ → ℕ → List ℕ → Option outcomes.Done → Struck
 struckDone m copy name pattern none = struck false m
-struckDone m copy name pattern (some (outcomes.Done.refused n s)) = struck false m
+struckDone m copy name pattern (some (outcomes.Done.refused x)) = struck false m
 struckDone m copy name pattern (some (outcomes.page p finished after)) = cond (eqb name p) (struck true (raisedAt copy (256 * p) pattern)) (struck false m)
 struckDone m copy name pattern (some (outcomes.block b finished after)) = cond (eqb name (256 + b)) (struck true (raisedAt m (4096 * b) pattern)) (struck false m)
 

@@ -139,7 +139,7 @@ held-plays m b m′ b′ l c r x p q f =
 -- what is printed of a step
 unfoldable linesDone : Option outcomes.Done → List Line
 linesDone none = []
-linesDone (some (outcomes.Done.refused n s)) = Line.refusal n ∷ []
+linesDone (some (outcomes.Done.refused x)) = Line.refusal (x .number) ∷ []
 linesDone (some (outcomes.page p finished after)) = []
 linesDone (some (outcomes.block b finished after)) = []
 
@@ -192,16 +192,16 @@ module _ (m b : List ℕ) (l : LastState) (r : Reply) where
     operation-held f q p e = held-plays m b m b l _ r _ (operation-plays m b (l .state) f code n ks ws p) q e
 
   -- formatting
-  module _ (n : ℕ) (f : Begun) (p : answered (f .number) (meaning (f .state)) ≡ formatOf (length m)) where
+  module _ (n : ℕ) (f : Begun) (p : begun.Formats m f) where
     pub format-refused : (f .number ≡ 0 → ⊥) → r ≡ refusedBy (f .number) false l → Plays (worldBy m l b) (Recorded.format n) r m b
     unfolding played run.begunFormat refusalLines worldBy
     format-refused h e =
-        refused-plays m b l (Recorded.format n) r (f .number) (ne-eqb (f .number) 0 h) (rw (sym p ∙ answered-refused (f .number) (meaning (f .state)) h)) e
+        refused-plays m b l (Recorded.format n) r (f .number) (ne-eqb (f .number) 0 h) (rw (sym (p .is) ∙ answered-refused (f .number) (meaning (f .state)) h)) e
 
     pub format-begun : (b′ : List ℕ) → f .number ≡ 0 → b′ ≡ emptyBuffer → r ≡ answeredBy 0 (f .state) → Plays (worldBy m l b) (Recorded.format n) r m b′
     unfolding played run.begunFormat refusalLines worldBy heldBy linesBy
     format-begun b′ z y e =
-        let a : formatOf (length m) ≡ gives (meaning (f .state)) = sym p ∙ answered-gives (f .number) (meaning (f .state)) z in
+        let a : formatOf (length m) ≡ gives (meaning (f .state)) = sym (p .is) ∙ answered-gives (f .number) (meaning (f .state)) z in
         subst (λ (x : Reply). Plays (worldBy m l b) (Recorded.format n) x m b′) (sym e)
         (record { after = rw (a, y); lines = rw a; ends = refl; few = none-set _ refl })
 
