@@ -1,14 +1,18 @@
 //! Start-up time: recovery of the proved library over the tight one
-//! (`tests/src/tight.rs`), on media of 16 and of 256 blocks. Both recover the
-//! same media in turn in one process; the least of many times counts. First the
-//! same medium again and again, then with other media recovered before each
-//! timed call, so that no branch is foretold from the call before.
+//! (`tests/src/tight.rs`), on media of 16 and of 256 blocks. The tight one is
+//! built twice: for any x86-64 processor, as the library's archive is, and for
+//! x86-64-v2. All three recover the same media in turn in one process; the least
+//! of many times counts. First the same medium again and again; then with other
+//! media recovered before each timed call, so that no branch is foretold from the
+//! call before; then as the first call of a process of its own.
 //!
 //!     cargo bench --offline --manifest-path tests/Cargo.toml --bench start_up
 //!
 //! With the word `list` it only prints the names of the media. With the words
-//! `count`, an implementation (`proved`, `tight`), a block count, a medium's name and
-//! a number, it only recovers that medium so many times: for `tests/instructions`.
+//! `count`, an implementation (`proved`, `tight`, `v2`), a block count, a medium's
+//! name and a number, it only recovers that medium so many times: for
+//! `tests/instructions`. With the word `first` and an implementation it reads a
+//! medium from standard input, recovers it once and prints the nanoseconds.
 
 use journal_tests::grown::{grown, turn_blocks, How};
 use journal_tests::random::Random;
@@ -18,6 +22,8 @@ use journal_tests::reader::{
 use journal_tests::writer::{lay_gathered, lay_page};
 use journal_tests::{proved, tight};
 use std::hint::black_box;
+use std::io::{Read, Write};
+use std::process::{Command, Stdio};
 use std::time::{Duration, Instant};
 
 /// Recovery of an accepted medium.
@@ -29,6 +35,18 @@ fn proved(medium: &[u8]) {
 
 fn tight(medium: &[u8]) {
     assert!(black_box(tight::recover(black_box(medium))).is_ok());
+}
+
+fn tight_v2(medium: &[u8]) {
+    // The processor was asked at the start.
+    assert!(black_box(unsafe { tight::recover_v2(black_box(medium)) }).is_ok());
+}
+
+/// Each under its name.
+const ALL: [(&str, Recover); 3] = [("proved", proved), ("tight", tight), ("v2", tight_v2)];
+
+fn named(which: &str) -> Recover {
+    ALL.iter().find(|one| one.0 == which).expect("an implementation").1
 }
 
 // ---------------------------------------------------------------------------
@@ -189,10 +207,10 @@ fn time(recover: Recover, medium: &[u8]) -> Duration {
 }
 
 /// The least time of each, run in turn for a second, others recovered before.
-fn least(medium: &[u8], others: &[&[u8]]) -> [Duration; 2] {
-    let (mut least, start, mut runs) = ([Duration::MAX; 2], Instant::now(), 0);
+fn least(medium: &[u8], others: &[&[u8]]) -> [Duration; 3] {
+    let (mut least, start, mut runs) = ([Duration::MAX; 3], Instant::now(), 0);
     while runs < 20 || start.elapsed() < Duration::from_secs(1) {
-        for (least, recover) in least.iter_mut().zip([proved, tight]) {
+        for (least, (_, recover)) in least.iter_mut().zip(ALL) {
             others.iter().for_each(|other| recover(other));
             *least = time(recover, medium).min(*least);
         }
@@ -201,42 +219,77 @@ fn least(medium: &[u8], others: &[&[u8]]) -> [Duration; 2] {
     least
 }
 
-fn micros(time: Duration) -> f64 {
-    time.as_secs_f64() * 1e6
+/// The least time of each as the first call of a process, of so many processes.
+fn least_first(medium: &[u8], processes: usize) -> [Duration; 3] {
+    let mut least = [Duration::MAX; 3];
+    for _ in 0..processes {
+        for (least, (which, _)) in least.iter_mut().zip(ALL) {
+            *least = first_elsewhere(which, medium).min(*least);
+        }
+    }
+    least
+}
+
+/// The time of the first call in a process of its own.
+fn first_elsewhere(which: &str, medium: &[u8]) -> Duration {
+    let mut command = Command::new(std::env::current_exe().expect("this program"));
+    command.args(["first", which]).stdin(Stdio::piped()).stdout(Stdio::piped());
+    let mut child = command.spawn().expect("a process");
+    let mut input = child.stdin.take().expect("its input");
+    input.write_all(medium).expect("the medium is read");
+    drop(input);
+    let output = child.wait_with_output().expect("its end").stdout;
+    let text = String::from_utf8(output).expect("a number");
+    Duration::from_nanos(text.trim().parse().expect("a number"))
+}
+
+/// Reads a medium and prints how long its first recovery takes.
+fn first(which: &str) {
+    let (recover, mut medium) = (named(which), Vec::new());
+    std::io::stdin().read_to_end(&mut medium).expect("a medium");
+    println!("{}", time(recover, &medium).as_nanos());
 }
 
 /// Recovers the medium of a name so many times.
 fn count(which: &str, blocks: &str, name: &str, times: &str) {
-    let recover = if which == "proved" { proved } else { tight };
+    let recover = named(which);
     let (_, made) = MEDIA.iter().find(|medium| medium.0 == name).expect("a medium's name");
     let medium = made(blocks.parse().expect("a block count"));
     (0..times.parse().expect("a number")).for_each(|_: usize| recover(&medium));
 }
 
 fn main() {
+    assert!(std::arch::is_x86_feature_detected!("popcnt"), "no x86-64-v2");
     let words: Vec<String> = std::env::args().skip(1).filter(|word| word != "--bench").collect();
     match &words.iter().map(String::as_str).collect::<Vec<_>>()[..] {
         ["list"] => MEDIA.iter().for_each(|(name, _)| println!("{name}")),
         ["count", which, blocks, name, times] => count(which, blocks, name, times),
+        ["first", which] => first(which),
         [] => times(),
         _ => panic!("no such words: {words:?}"),
     }
 }
 
-/// Prints the times as a table.
+/// The ratios of the first time to the others.
+fn ratios(times: [Duration; 3]) -> String {
+    let [proved, tight, v2] = times.map(|time| time.as_secs_f64());
+    format!("{:.2} | {:.2}", proved / tight, proved / v2)
+}
+
+/// Prints the times as a table: of each way of timing the ratio to either build.
 fn times() {
-    println!("| medium | proved | tight | ratio | disturbed |\n|---|---|---|---|---|");
+    println!("| medium | proved | tight | v2 | ratio | to v2 | disturbed | to v2 | first call | to v2 |");
+    println!("|---|---|---|---|---|---|---|---|---|---|");
     for blocks in [16, 256] {
         let media = MEDIA.map(|(name, made)| (name, made(blocks)));
         for (nth, (name, medium)) in media.iter().enumerate() {
             let others = [1, 4, 9].map(|more| &*media[(nth + more) % media.len()].1);
-            let [proved, tight] = least(medium, &[]);
-            let disturbed = least(medium, &others).map(micros);
-            let ratio = proved.as_secs_f64() / tight.as_secs_f64();
-            let (proved, tight) = (micros(proved), micros(tight));
-            let disturbed = disturbed[0] / disturbed[1];
+            let (again, disturbed) = (least(medium, &[]), least(medium, &others));
+            let first = least_first(medium, 40);
+            let [proved, tight, v2] = again.map(|time| time.as_secs_f64() * 1e6);
+            let (again, disturbed, first) = (ratios(again), ratios(disturbed), ratios(first));
             println!(
-                "| {blocks} blocks, {name} | {proved:.1} µs | {tight:.1} µs | {ratio:.2} | {disturbed:.2} |"
+                "| {blocks} blocks, {name} | {proved:.1} µs | {tight:.1} µs | {v2:.1} µs | {again} | {disturbed} | {first} |"
             );
         }
     }
