@@ -6,7 +6,8 @@
 mod common;
 
 use common::{begin_append, formatted, lent, streams_library};
-use journal_tests::reader::{self, MORNING_BYTES, REMOVAL};
+use journal_tests::reader::{self, BLOCK_BYTES, MAX_BLOCKS, MORNING_BYTES, REMOVAL};
+use journal_tests::trace::{bytes_of, Call};
 use std::fs::{self, File};
 use std::os::unix::process::ExitStatusExt;
 use std::path::{Path, PathBuf};
@@ -35,7 +36,11 @@ struct Program {
 /// an input can be.
 type Proved = (&'static str, fn() -> Vec<u8>, usize);
 
-const PROVED: [Proved; 1] = [("morning", long_medium, MORNING_BYTES)];
+const PROVED: [Proved; 3] = [
+    ("morning", long_medium, MORNING_BYTES),
+    ("rerun", long_trace, MORNING_BYTES),
+    ("pages", long_medium, MAX_BLOCKS * BLOCK_BYTES),
+];
 
 /// The examples that read a medium.
 const EXAMPLES: [&str; 2] = ["morning", "reader"];
@@ -54,6 +59,21 @@ fn long_medium() -> Vec<u8> {
     }
     assert_eq!(medium.len(), MORNING_BYTES);
     medium
+}
+
+/// A trace of 65536 bytes; each of its first recoveries finds 92 valves set.
+fn long_trace() -> Vec<u8> {
+    let (keys, words) = common::lists(&common::valves(1, 92));
+    let mut calls = vec![Call::Format { blocks: 4 }];
+    calls.resize(6, Call::Step);
+    calls.push(Call::Append { keys, words });
+    calls.resize(calls.len() + 4, Call::Step);
+    calls.resize(calls.len() + 40, Call::Recover);
+    let length = bytes_of(&calls).len();
+    calls.resize(calls.len() + (MORNING_BYTES - length) / 16, Call::Step);
+    let trace = bytes_of(&calls);
+    assert_eq!(trace.len(), MORNING_BYTES);
+    trace
 }
 
 impl Program {
@@ -200,8 +220,8 @@ impl Program {
         Ok(())
     }
 
-    /// A call that a signal interrupts is made again, or told: it is never taken for the
-    /// end. In Rust the library makes it again, in C it is told.
+    /// A call that a signal interrupts is never taken for the end: it is made again, by
+    /// the proved programs and by Rust's library, or told, in C.
     fn interrupted_calls(&self) -> Right {
         let error = "Interrupted system call";
         for n in [0, 1, 4096, 8192] {
@@ -213,12 +233,8 @@ impl Program {
                 "standard output",
                 error,
             ));
-            match self.language {
-                Language::Rattle => again.or(told),
-                Language::C => told,
-                Language::Rust => again,
-            }
-            .map_err(|what| format!("interrupted {n}: {what}"))?;
+            let right = if self.language == Language::C { told } else { again };
+            right.map_err(|what| format!("interrupted {n}: {what}"))?;
         }
         Ok(())
     }
