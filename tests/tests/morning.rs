@@ -244,7 +244,7 @@ fn a_listing_that_is_cut_off_is_told_from_a_whole_one() {
         folder.put("LISTING", format!("{whole}7 1\n").as_bytes());
         assert!(!folder.accepts(&asks), "a line behind {whole}");
         folder.put("LISTING", whole.as_bytes());
-        folder.put("ERRORS", b"standard input: Input/output error\n");
+        folder.put("ERRORS", b"cannot read standard input: Input/output error\n");
         assert!(!folder.accepts(&asks), "an error beside {whole}");
     }
 }

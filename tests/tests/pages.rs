@@ -211,11 +211,11 @@ fn a_read_or_a_write_that_fails() {
     let folder = File::open(env!("CARGO_MANIFEST_DIR")).expect("a folder, which cannot be read");
     let unread = run(folder, Stdio::piped());
     assert_eq!(unread.stdout, b"");
-    assert!(unread.stderr.starts_with(b"standard input: "));
+    assert!(unread.stderr.starts_with(b"cannot read standard input: "));
     let sample = concat!(env!("CARGO_MANIFEST_DIR"), "/../crates/pages/stdin");
     let full = File::options().write(true).open("/dev/full").expect("a full device");
     let unwritten = run(File::open(sample).expect("the sample"), Stdio::from(full));
-    assert!(unwritten.stderr.starts_with(b"standard output: "));
+    assert!(unwritten.stderr.starts_with(b"cannot write standard output: "));
     let printed = run(File::open(sample).expect("the sample"), Stdio::piped());
     assert_eq!(printed.stderr, b"");
     assert!(!printed.stdout.is_empty());
