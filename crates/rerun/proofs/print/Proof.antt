@@ -1,7 +1,9 @@
+use mathlib.Core.Path.{_≡_}
 use Prim.Native.Nat.{_-_}
 use lib.ListN.{length}
+use Rattle.text.proofs.Parts.{part-seen, Printing, printing-start, printing-failed, printing-end, printing-fits, printing-less}
+use Rattle.text.proofs.Parts.{printing-next}
 use Rattle.run_text.specs.RunText.{runText}
-use Rattle.rerun.proofs.Laws.{part-seen, Printing, printing-start, printing-failed, printing-end, printing-fits, printing-less, printing-next}
 use borrow.Author.Needs.{needs}
 use Rattle.rerun.proofs.print.Statement.{statement}
 use Rattle.rerun.proofs.print.Tie as tie
@@ -11,14 +13,14 @@ use Rattle.rerun.proofs.write_part.Reads as write-part-reads
 use Rattle.run_text.proofs.window.Reads as window-reads
 
 abbrev Inv-loop : tie.InvT-loop
-Inv-loop t m₀ b₀ out₀ from₀ m b out from = Printing (runText t) m₀ b₀ out₀ m b out from
+Inv-loop t m₀ b₀ out₀ from₀ m b out from = Printing (runText t) out₀ out from × (length m ≡ length m₀) × (length b ≡ length b₀)
 
 abbrev μ-loop : tie.MeasureT-loop
 μ-loop t m₀ b₀ out₀ from₀ m b out from = length (runText t) - from
 
 -- src/main.rt:30:5
 loop-holds : tie.Need-loop-holds Inv-loop μ-loop
-loop-holds c = search (printing-start, needs)
+loop-holds c = (search (printing-start, needs), search needs, search needs)
 
 -- src/main.rt:31:13
 window-requires : tie.Need-window-requires Inv-loop μ-loop
@@ -78,7 +80,7 @@ loop-less c = search (printing-less, needs)
 
 -- src/main.rt:30:5
 loop-again : tie.Need-loop-again Inv-loop μ-loop
-loop-again c = search (printing-next, needs)
+loop-again c = (search (printing-next, needs), search needs, search needs)
 
 pub print-spec : {M : Type 1} → statement M
 print-spec =
