@@ -92,7 +92,8 @@ module _ {out : List ℕ} {n : ℕ} {out′ : List ℕ} {r : ℕ} (k : ℕ) wher
 -- ---- what a page is
 
 pub fields-are : {out : List ℕ} {n : ℕ} {out′ : List ℕ} {r : ℕ} (s : List ℕ) (x u : ℕ) → x ≡ le (part 8 8 s) → u ≡ used s
-    → Puts out n (kindText (getD s 2 0) ++ flagsText (getD s 3 0) ++ fieldText (ascii ", serial ") x ++ fieldText (ascii ", entries ") u) out′ r
+    → Puts out n (kindText (getD s 2 0) ++ flagsText (getD s 3 0) ++ fieldText (ascii ", serial ") x ++ fieldText (ascii ", entries ") u)
+    out′ r
     → Puts out n (fieldsText s) out′ r
 unfolding fieldsText decode
 fields-are s x u c d p = rw (← c, ← d) p
@@ -174,7 +175,8 @@ module _ {out : List ℕ} {n : ℕ} {out′ : List ℕ} {r : ℕ} (a e : ℕ) (h
   unfolding cleanLine
   clean-one f p = let z : suc a ≡ e = omega arith in rw (lt-ltb a e h, eq-eqb (suc a) e z) p
 
-  pub clean-more : (a + 1 ≡ e → ⊥) → Puts out n (fieldText (ascii "pages ") a ++ fieldText (ascii " to ") (e - 1) ++ ascii ": clean\n") out′ r
+  pub clean-more : (a + 1 ≡ e → ⊥)
+      → Puts out n (fieldText (ascii "pages ") a ++ fieldText (ascii " to ") (e - 1) ++ ascii ": clean\n") out′ r
       → Puts out n (cleanLine a e) out′ r
   unfolding cleanLine
   clean-more f p = let z : a + 1 ≡ suc a = omega arith in rw (lt-ltb a e h, ne-eqb (suc a) e (λ q. f (z ∙ q))) p
