@@ -18,11 +18,16 @@ use Rattle.flash.specs.Medium.{pageAt}
 use Rattle.blocks.specs.Blocks.{sizeOk}
 use Rattle.recovery.specs.Recovery.{recover}
 use Rattle.listing.specs.Listing.{refusalLine}
-use Rattle.page_text.specs.PageText.{kindName, flagsName, fieldText, kindText, flagsText, fieldsText, rulesText, classText, entryLine, entryLines, pageText, cleanLine, linesFrom, endText, pagesText}
+use Rattle.page_text.specs.PageText.{kindName, flagsName, fieldText, kindText, flagsText, fieldsText, rulesText, classText}
+use Rattle.page_text.specs.PageText.{entryLine, entryLines, pageText, cleanLine, linesFrom, endText, pagesText}
 use Rattle.page_text.specs.Claims.{examplePage, ExampleText, ReadsEnough}
 
 pub example-text : ExampleText
-unfolding all every allBelow table under ascii decimalWithin decimal zeroBits zeros le blank allOnes mayCarry leastCount entryOk marksOk serialOk ruled lawful zeroCount check used entryAt tidy decode wholeBytes cleanBytes pageAt sizeOk recover refusalLine kindName flagsName fieldText kindText flagsText fieldsText rulesText classText entryLine entryLines pageText cleanLine linesFrom endText pagesText examplePage ExampleText
+unfolding
+    all every allBelow table under ascii decimalWithin decimal zeroBits zeros le blank allOnes mayCarry leastCount entryOk marksOk serialOk
+    ruled lawful zeroCount check used entryAt tidy decode wholeBytes cleanBytes pageAt sizeOk recover refusalLine kindName flagsName
+    fieldText kindText flagsText fieldsText rulesText classText entryLine entryLines pageText cleanLine linesFrom endText pagesText
+    examplePage ExampleText
 example-text = refl
 
 pub reads-enough : ReadsEnough

@@ -19,12 +19,14 @@ use Rattle.page.specs.Pages.{Page}
 use Rattle.page.specs.Rules.{lawful}
 use Rattle.page.specs.Layout.{used, entryAt, decode, wholeBytes}
 use Rattle.listing.proofs.Laws.{Telling, telling-start, telling-long, telling-next, telling-end}
-use Rattle.page_text.specs.PageText.{kindName, flagsName, fieldText, kindText, flagsText, fieldsText, rulesText, classText, entryLine, entryLines, cleanLine}
+use Rattle.page_text.specs.PageText.{kindName, flagsName, fieldText, kindText, flagsText, fieldsText, rulesText, classText}
+use Rattle.page_text.specs.PageText.{entryLine, entryLines, cleanLine}
 
 -- ---- four texts in turn
 
-pub puts-four : {out : List ℕ} {n : ℕ} {x out₁ : List ℕ} {r₁ : ℕ} {y out₂ : List ℕ} {r₂ : ℕ} {z out₃ : List ℕ} {r₃ : ℕ} {w out₄ : List ℕ} {r₄ : ℕ}
-    → Puts out n x out₁ r₁ → Puts out₁ r₁ y out₂ r₂ → Puts out₂ r₂ z out₃ r₃ → Puts out₃ r₃ w out₄ r₄ → Puts out n (x ++ y ++ z ++ w) out₄ r₄
+pub puts-four : {out : List ℕ} {n : ℕ} {x out₁ : List ℕ} {r₁ : ℕ} {y out₂ : List ℕ} {r₂ : ℕ} {z out₃ : List ℕ} {r₃ : ℕ}
+    {w out₄ : List ℕ} {r₄ : ℕ} → Puts out n x out₁ r₁ → Puts out₁ r₁ y out₂ r₂ → Puts out₂ r₂ z out₃ r₃ → Puts out₃ r₃ w out₄ r₄
+    → Puts out n (x ++ y ++ z ++ w) out₄ r₄
 puts-four p q r s = puts-then (puts-then (puts-then p q) r) s
 
 -- ---- names
@@ -63,7 +65,8 @@ module _ {out : List ℕ} {n : ℕ} {out′ : List ℕ} {r : ℕ} (k : ℕ) wher
   unfolding kindName
   kind-small e p = rw e p
 
-  pub kind-other : (k ≡ 1 → ⊥) → (k ≡ 2 → ⊥) → (k ≡ 3 → ⊥) → (k ≡ 4 → ⊥) → Puts out n (ascii " (unknown)") out′ r → Puts out n (kindName k) out′ r
+  pub kind-other : (k ≡ 1 → ⊥) → (k ≡ 2 → ⊥) → (k ≡ 3 → ⊥) → (k ≡ 4 → ⊥) → Puts out n (ascii " (unknown)") out′ r
+      → Puts out n (kindName k) out′ r
   kind-other a b c d p = puts-same (kind-unknown k a b c d) p
 
   pub flags-neither : k ≡ 0 → Puts out n (ascii " (neither begins nor ends)") out′ r → Puts out n (flagsName k) out′ r
@@ -82,30 +85,37 @@ module _ {out : List ℕ} {n : ℕ} {out′ : List ℕ} {r : ℕ} (k : ℕ) wher
   unfolding flagsName
   flags-both e p = rw e p
 
-  pub flags-other : (k ≡ 0 → ⊥) → (k ≡ 1 → ⊥) → (k ≡ 2 → ⊥) → (k ≡ 3 → ⊥) → Puts out n (ascii " (unknown)") out′ r → Puts out n (flagsName k) out′ r
+  pub flags-other : (k ≡ 0 → ⊥) → (k ≡ 1 → ⊥) → (k ≡ 2 → ⊥) → (k ≡ 3 → ⊥) → Puts out n (ascii " (unknown)") out′ r
+      → Puts out n (flagsName k) out′ r
   flags-other a b c d p = puts-same (flags-unknown k a b c d) p
 
 -- ---- what a page is
 
 pub fields-are : {out : List ℕ} {n : ℕ} {out′ : List ℕ} {r : ℕ} (s : List ℕ) (x u : ℕ) → x ≡ le (part 8 8 s) → u ≡ used s
-    → Puts out n (kindText (getD s 2 0) ++ flagsText (getD s 3 0) ++ fieldText (ascii ", serial ") x ++ fieldText (ascii ", entries ") u) out′ r → Puts out n (fieldsText s) out′ r
+    → Puts out n (kindText (getD s 2 0) ++ flagsText (getD s 3 0) ++ fieldText (ascii ", serial ") x ++ fieldText (ascii ", entries ") u)
+    out′ r
+    → Puts out n (fieldsText s) out′ r
 unfolding fieldsText decode
 fields-are s x u c d p = rw (← c, ← d) p
 
 module _ {out : List ℕ} {n : ℕ} {out′ : List ℕ} {r : ℕ} (s : List ℕ) (b : Bool) where
-  pub rules-kept : b ≡ lawful (decode s) → b ≡ true → Puts out n (ascii ", keeps the rules") out′ r → Puts out n (rulesText (decode s)) out′ r
+  pub rules-kept : b ≡ lawful (decode s) → b ≡ true → Puts out n (ascii ", keeps the rules") out′ r
+      → Puts out n (rulesText (decode s)) out′ r
   unfolding rulesText
   rules-kept e t p = rw (← e, t) p
 
-  pub rules-broken : b ≡ lawful (decode s) → b ≡ false → Puts out n (ascii ", breaks the rules") out′ r → Puts out n (rulesText (decode s)) out′ r
+  pub rules-broken : b ≡ lawful (decode s) → b ≡ false → Puts out n (ascii ", breaks the rules") out′ r
+      → Puts out n (rulesText (decode s)) out′ r
   unfolding rulesText
   rules-broken e t p = rw (← e, t) p
 
-  pub class-whole : b ≡ wholeBytes s → b ≡ true → Puts out n (ascii ": whole, " ++ fieldsText s ++ rulesText (decode s)) out′ r → Puts out n (classText s) out′ r
+  pub class-whole : b ≡ wholeBytes s → b ≡ true → Puts out n (ascii ": whole, " ++ fieldsText s ++ rulesText (decode s)) out′ r
+      → Puts out n (classText s) out′ r
   unfolding classText
   class-whole e t p = rw (← e, t) p
 
-  pub class-spoilt : b ≡ wholeBytes s → b ≡ false → Puts out n (ascii ": spoilt, reads as " ++ fieldsText s) out′ r → Puts out n (classText s) out′ r
+  pub class-spoilt : b ≡ wholeBytes s → b ≡ false → Puts out n (ascii ": spoilt, reads as " ++ fieldsText s) out′ r
+      → Puts out n (classText s) out′ r
   unfolding classText
   class-spoilt e t p = rw (← e, t) p
 
@@ -137,10 +147,12 @@ module _ (s out₀ : List ℕ) (n₀ : ℕ) (out : List ℕ) (n i : ℕ) (t : En
     pub entering-place : i < count → i < 24
     entering-place h = omega arith
 
-    pub entering-next : i < count → (e : Cell) → e ≡ entryAt s i → (out′ : List ℕ) (r : ℕ) → Puts out n (entryLine i e) out′ r → Entering s out₀ n₀ out′ r (i + 1)
+    pub entering-next : i < count → (e : Cell) → e ≡ entryAt s i → (out′ : List ℕ) (r : ℕ) → Puts out n (entryLine i e) out′ r
+        → Entering s out₀ n₀ out′ r (i + 1)
     entering-next h e f out′ r p =
         let z : i + 1 ≡ suc i = omega arith in
-        let u : entryLines i (entryAt s i ∷ drop (suc i) (decode s .entries)) ≡ entryLine i (entryAt s i) ++ entryLines (suc i) (drop (suc i) (decode s .entries)) = unfold entryLines in refl in
+        let rest = drop (suc i) (decode s .entries) in
+        let u : entryLines i (entryAt s i ∷ rest) ≡ entryLine i (entryAt s i) ++ entryLines (suc i) rest = unfold entryLines in refl in
         let q : Puts out n (entryLine i (entryAt s i)) out′ r = puts-same (ap (entryLine i) f) p in
         rw z (record { far = omega arith; so = telling-next (t .so) (ap (entryLines i) (entries-from s i (omega arith)) ∙ u) q })
 
@@ -163,6 +175,8 @@ module _ {out : List ℕ} {n : ℕ} {out′ : List ℕ} {r : ℕ} (a e : ℕ) (h
   unfolding cleanLine
   clean-one f p = let z : suc a ≡ e = omega arith in rw (lt-ltb a e h, eq-eqb (suc a) e z) p
 
-  pub clean-more : (a + 1 ≡ e → ⊥) → Puts out n (fieldText (ascii "pages ") a ++ fieldText (ascii " to ") (e - 1) ++ ascii ": clean\n") out′ r → Puts out n (cleanLine a e) out′ r
+  pub clean-more : (a + 1 ≡ e → ⊥)
+      → Puts out n (fieldText (ascii "pages ") a ++ fieldText (ascii " to ") (e - 1) ++ ascii ": clean\n") out′ r
+      → Puts out n (cleanLine a e) out′ r
   unfolding cleanLine
   clean-more f p = let z : a + 1 ≡ suc a = omega arith in rw (lt-ltb a e h, ne-eqb (suc a) e (λ q. f (z ∙ q))) p

@@ -11,22 +11,20 @@ use Rattle.lists.specs.Needs.{Answer, refused, gives}
 use Rattle.lists.specs.Cells.{Entry}
 use Rattle.lists.proofs.Laws.{by-cases}
 use Rattle.text.specs.Text.{ascii, decimal}
+use Rattle.text.specs.Parts.{mostPrinted}
+use Rattle.text.proofs.Decimal.{few-app, few-decimal}
 use Rattle.page.specs.Pages.{Page}
 use Rattle.page.specs.Rules.{lawful}
 use Rattle.page.specs.Layout.{used, decode, wholeBytes, cleanBytes}
 use Rattle.flash.specs.Medium.{views, pageAt}
 use Rattle.recovery.specs.Recovery.{Recovery, recover}
 use Rattle.listing.specs.Listing.{refusalLine}
-use Rattle.listing.proofs.Whole.{few-app, few-refusal}
-use Rattle.page_text.specs.PageText.{kindName, flagsName, fieldText, kindText, flagsText, fieldsText, rulesText, classText, entryLine, entryLines, pageText, cleanLine, linesFrom, endText, pagesText}
-use Rattle.page_text.specs.Pieces.{mostText}
+use Rattle.listing.proofs.Whole.{few-refusal}
+use Rattle.page_text.specs.PageText.{kindName, flagsName, fieldText, kindText, flagsText, fieldsText, rulesText, classText}
+use Rattle.page_text.specs.PageText.{entryLine, entryLines, pageText, cleanLine, linesFrom, endText, pagesText}
 use Rattle.page_text.proofs.Laws.{entries-many}
 
 -- ---- the parts of a page's line
-
-few-decimal : (n : ℕ) → length (decimal n) ≤ 20
-unfolding refusalLine ascii
-few-decimal n = omega (arith, few-refusal n, length-append (ascii "refused " ++ decimal n) (ascii "\n"), length-append (ascii "refused ") (decimal n))
 
 few-field : (word : List ℕ) (k n : ℕ) → length word ≤ k → length (fieldText word n) ≤ k + 20
 unfolding fieldText
@@ -55,12 +53,16 @@ few-kind k = few-app (fieldText (ascii "kind ") k) (kindName k) 25 15 (few-field
 
 few-flags : (k : ℕ) → length (flagsText k) ≤ 54
 unfolding flagsText ascii
-few-flags k = few-app (fieldText (ascii ", flags ") k) (flagsName k) 28 26 (few-field (ascii ", flags ") 8 k (omega arith)) (few-flags-name k)
+few-flags k =
+    few-app (fieldText (ascii ", flags ") k) (flagsName k) 28 26 (few-field (ascii ", flags ") 8 k (omega arith)) (few-flags-name k)
 
 few-fields : (s : List ℕ) → length (fieldsText s) ≤ 153
 unfolding fieldsText ascii
 few-fields s =
-    few-app (kindText (decode s .kind) ++ flagsText (decode s .flags) ++ fieldText (ascii ", serial ") (decode s .serial)) (fieldText (ascii ", entries ") (used s)) 123 30
+    few-app
+    (kindText (decode s .kind) ++ flagsText (decode s .flags) ++ fieldText (ascii ", serial ") (decode s .serial))
+    (fieldText (ascii ", entries ") (used s))
+    123 30
     (few-app (kindText (decode s .kind) ++ flagsText (decode s .flags)) (fieldText (ascii ", serial ") (decode s .serial)) 94 29
     (few-app (kindText (decode s .kind)) (flagsText (decode s .flags)) 40 54 (few-kind (decode s .kind)) (few-flags (decode s .flags)))
     (few-field (ascii ", serial ") 9 (decode s .serial) (omega arith)))
@@ -74,7 +76,10 @@ few-class : (s : List ℕ) → length (classText s) ≤ 180
 unfolding classText ascii
 few-class s =
     by-cases (wholeBytes s)
-    (λ e. rw e (few-app (ascii ": whole, " ++ fieldsText s) (rulesText (decode s)) 162 18 (few-app (ascii ": whole, ") (fieldsText s) 9 153 (omega arith) (few-fields s)) (few-rules (decode s))))
+    (λ e. rw e
+    (few-app (ascii ": whole, " ++ fieldsText s) (rulesText (decode s)) 162 18
+    (few-app (ascii ": whole, ") (fieldsText s) 9 153 (omega arith) (few-fields s))
+    (few-rules (decode s))))
     (λ e. rw e (let l = few-app (ascii ": spoilt, reads as ") (fieldsText s) 19 153 (omega arith) (few-fields s) in omega arith))
 
 -- ---- a page
@@ -82,9 +87,13 @@ few-class s =
 few-entry : (i : ℕ) (e : Entry) → length (entryLine i e) ≤ 82
 unfolding entryLine ascii
 few-entry i e =
-    few-app (fieldText (ascii "  entry ") i ++ fieldText (ascii ": key ") (e .key) ++ fieldText (ascii ", word ") (e .val)) (ascii "\n") 81 1
+    few-app
+    (fieldText (ascii "  entry ") i ++ fieldText (ascii ": key ") (e .key) ++ fieldText (ascii ", word ") (e .val)) (ascii "\n")
+    81 1
     (few-app (fieldText (ascii "  entry ") i ++ fieldText (ascii ": key ") (e .key)) (fieldText (ascii ", word ") (e .val)) 54 27
-    (few-app (fieldText (ascii "  entry ") i) (fieldText (ascii ": key ") (e .key)) 28 26 (few-field (ascii "  entry ") 8 i (omega arith)) (few-field (ascii ": key ") 6 (e .key) (omega arith)))
+    (few-app (fieldText (ascii "  entry ") i) (fieldText (ascii ": key ") (e .key)) 28 26
+    (few-field (ascii "  entry ") 8 i (omega arith))
+    (few-field (ascii ": key ") 6 (e .key) (omega arith)))
     (few-field (ascii ", word ") 7 (e .val) (omega arith)))
     (omega arith)
 
@@ -105,16 +114,25 @@ few-page p s =
 
 -- ---- a line of clean pages, and a piece
 
-few-run : (a e : ℕ) (b : Bool) → length (cond b (fieldText (ascii "page ") a) (fieldText (ascii "pages ") a ++ fieldText (ascii " to ") (e - 1))) ≤ 50
+few-run : (a e : ℕ) (b : Bool)
+    → length (cond b (fieldText (ascii "page ") a) (fieldText (ascii "pages ") a ++ fieldText (ascii " to ") (e - 1))) ≤ 50
 unfolding ascii
 few-run a e true = let l = few-field (ascii "page ") 5 a (omega arith) in omega arith
-few-run a e false = few-app (fieldText (ascii "pages ") a) (fieldText (ascii " to ") (e - 1)) 26 24 (few-field (ascii "pages ") 6 a (omega arith)) (few-field (ascii " to ") 4 (e - 1) (omega arith))
+few-run a e false =
+    few-app (fieldText (ascii "pages ") a) (fieldText (ascii " to ") (e - 1)) 26 24
+    (few-field (ascii "pages ") 6 a (omega arith))
+    (few-field (ascii " to ") 4 (e - 1) (omega arith))
 
 pub few-clean : (a e : ℕ) → length (cleanLine a e) ≤ 58
 unfolding cleanLine ascii
 few-clean a e =
     by-cases (ltb a e)
-    (λ q. rw q (few-app (cond (eqb (suc a) e) (fieldText (ascii "page ") a) (fieldText (ascii "pages ") a ++ fieldText (ascii " to ") (e - 1))) (ascii ": clean\n") 50 8 (few-run a e (eqb (suc a) e)) (omega arith)))
+    (λ q. rw q
+    (few-app
+    (cond (eqb (suc a) e) (fieldText (ascii "page ") a) (fieldText (ascii "pages ") a ++ fieldText (ascii " to ") (e - 1)))
+    (ascii ": clean\n") 50 8
+    (few-run a e (eqb (suc a) e))
+    (omega arith)))
     (λ q. rw q (omega arith))
 
 pub few-piece : (a p : ℕ) (s : List ℕ) → length (cleanLine a p ++ pageText p s) ≤ 2232
@@ -140,7 +158,8 @@ unfolding endText
 few-end (refused n) = few-refusal n
 few-end (gives x) = omega arith
 
-pub few-text : (m : List ℕ) → length (pagesText m) ≤ mostText
+-- of 4096 pages with 2304 bytes each, and two lines
+pub few-text : (m : List ℕ) → length (pagesText m) ≤ mostPrinted
 unfolding pagesText
 few-text m =
     by-cases (ltb 1048576 (length m)) (λ q. rw q (let l = few-refusal 1 in omega arith))

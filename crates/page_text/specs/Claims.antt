@@ -7,7 +7,8 @@ use Rattle.text.specs.Text.{ascii}
 use Rattle.codec.specs.Codec.{blank}
 use Rattle.page_text.specs.PageText.{pagesText}
 
--- The 256 bytes of the page of kind 1 that is worked out in docs/FORMAT.md, {5→1000, 7→20}: check, kind, flags, n, marks, serial, keys, words.
+-- The 256 bytes of the page of kind 1 that is worked out in docs/FORMAT.md, {5→1000, 7→20}: check, kind, flags, n, marks, serial, keys,
+-- words.
 unfoldable pub examplePage : List ℕ
 examplePage =
     (238 ∷ 0 ∷ 1 ∷ 3 ∷ 2 ∷ 0 ∷ 255 ∷ 255 ∷ 2 ∷ [])

@@ -1,5 +1,5 @@
--- What the program `pages` prints, byte by byte: of each page that is not clean what it is and what its bytes say, then each of its entries; of clean pages that
--- follow each other one line; at the end the number that recovery refuses the medium with.
+-- What the program `pages` prints, byte by byte: of each page that is not clean what it is and what its bytes say, then each of its
+-- entries; of clean pages that follow each other one line; at the end the number that recovery refuses the medium with.
 use mathlib.Core.Bool.{cond}
 use mathlib.Core.List.{List, [], _∷_, _++_}
 use Prim.Native.Nat.{ℕ, zero, suc, _-_, _/_}
@@ -81,7 +81,10 @@ pageText p s = fieldText (ascii "page ") p ++ classText s ++ ascii "\n" ++ entry
 unfoldable pub cleanLine : ℕ → ℕ → List ℕ
 cleanLine a e =
     cond (ltb a e)
-    (cond (eqb (suc a) e) (fieldText (ascii "page ") a) (fieldText (ascii "pages ") a ++ fieldText (ascii " to ") (e - 1)) ++ ascii ": clean\n")
+    (cond (eqb (suc a) e)
+    (fieldText (ascii "page ") a)
+    (fieldText (ascii "pages ") a ++ fieldText (ascii " to ") (e - 1))
+    ++ ascii ": clean\n")
     []
 
 -- k pages from page p on, where the pages from a up to the one before p are clean and have not been told yet
@@ -97,8 +100,12 @@ unfoldable pub endText : Answer Recovery → List ℕ
 endText (refused n) = refusalLine n
 endText (gives r) = []
 
--- Of what was read from standard input: the pages that are there with all their bytes, and how recovery ends. A medium has at most 256 blocks, 1048576 bytes;
--- more are refused with 1 and not looked at.
+-- how recovery of this medium ends
+abbrev pub endOf : List ℕ → List ℕ
+endOf m = endText (recover (length m) (views m))
+
+-- Of what was read from standard input: the pages that are there with all their bytes, and how recovery ends. A medium has at most 256
+-- blocks, 1048576 bytes; more are refused with 1 and not looked at.
 unfoldable pub pagesText : List ℕ → List ℕ
 pagesText m =
-    cond (ltb 1048576 (length m)) (refusalLine 1) (linesFrom m (length m / 256) 0 0 ++ endText (recover (length m) (views m)))
+    cond (ltb 1048576 (length m)) (refusalLine 1) (linesFrom m (length m / 256) 0 0 ++ endOf m)

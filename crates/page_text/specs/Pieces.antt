@@ -6,8 +6,8 @@ use Rattle.page.specs.Layout.{cleanBytes}
 use Rattle.flash.specs.Medium.{pageAt}
 use Rattle.page_text.specs.PageText.{pageText, cleanLine}
 
--- What is told at page p of a medium m, where the pages from a up to the one before p are clean and have not been told yet: nothing if it is clean too, else
--- these and the page.
+-- What is told at page p of a medium m, where the pages from a up to the one before p are clean and have not been told yet: nothing if it
+-- is clean too, else these and the page.
 unfoldable pub pieceText : List ℕ → ℕ → ℕ → List ℕ
 pieceText m a p = cond (cleanBytes (pageAt m p)) [] (cleanLine a p ++ pageText p (pageAt m p))
 
@@ -15,10 +15,7 @@ pieceText m a p = cond (cleanBytes (pageAt m p)) [] (cleanLine a p ++ pageText p
 unfoldable pub untold : List ℕ → ℕ → ℕ → ℕ
 untold m a p = cond (cleanBytes (pageAt m p)) a (suc p)
 
--- So many bytes hold every piece: a line of clean pages of at most 58, a page's line of at most 206, and 24 entries of at most 82; and every line alone.
+-- So many bytes hold every piece: a line of clean pages of at most 58, a page's line of at most 206, and 24 entries of at most 82; and
+-- every line alone.
 abbrev pub mostPiece : ℕ
 mostPiece = 2304
-
--- and so many every text: of 4096 pages, and two lines
-abbrev pub mostText : ℕ
-mostText = 9437184

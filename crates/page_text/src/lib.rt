@@ -1,17 +1,15 @@
 // What the pages of a medium are, which `pages` prints, as text in a lent list of bytes.
 ghost use mathlib.Core.Path.{_≡_};
-ghost use mathlib.Core.List.{_++_};
 ghost use Prim.Native.Nat.{_≤_, _<_, _/_, min};
 ghost use lib.ListN.{length};
 ghost use Rattle.text.specs.Text.{Puts, Holds};
-ghost use Rattle.text.specs.Window.{window as window-of, Shows};
+ghost use Rattle.text.specs.Window.{Shows};
+ghost use Rattle.text.specs.Parts.{Sees};
 ghost use Rattle.page.specs.Layout.{used, decode};
-ghost use Rattle.flash.specs.Medium.{views};
-ghost use Rattle.recovery.specs.Recovery.{recover};
 ghost use Rattle.listing.specs.Listing.{refusalLine};
 ghost use Rattle.page_text.specs.PageText.{kindName, flagsName, fieldText, kindText, flagsText, fieldsText};
 ghost use Rattle.page_text.specs.PageText.{rulesText, classText, entryLine, entryLines, pageText, cleanLine};
-ghost use Rattle.page_text.specs.PageText.{linesFrom, endText, pagesText};
+ghost use Rattle.page_text.specs.PageText.{linesFrom, endOf, pagesText};
 ghost use Rattle.page_text.specs.Pieces.{pieceText, untold, mostPiece};
 use lists::Cell;
 use text::WindowState;
@@ -19,7 +17,8 @@ use text::WindowState;
 // The bytes of the longest medium: 256 blocks.
 pub const BYTES: usize = 1048576;
 
-// Each function puts its text behind the first n bytes of a list, and answers how many bytes of text are there then. Here a word and a number.
+// Each function puts its text behind the first n bytes of a list, and answers how many bytes of text are there then. Here a word and a
+// number.
 fn field(out: &mut [u8], n: usize, word: &[u8], x: u64) -> usize
     ensures { λ r. ⌜ Puts (now (out .entry)) n (fieldText (now (word .entry)) x) (now (out .exit)) r ⌝ }
 {
@@ -265,7 +264,7 @@ fn show_pages(m: &[u8], out: &mut [u8], w: WindowState) -> WindowState
 
 // The number that recovery refuses with, if it does.
 fn show_end(m: &[u8], out: &mut [u8], w: WindowState) -> WindowState
-    ensures { λ r. ⌜ Shows (now (out .entry)) w (endText (recover (length (now (m .entry))) (views (now (m .entry))))) (now (out .exit)) r ⌝ }
+    ensures { λ r. ⌜ Shows (now (out .entry)) w (endOf (now (m .entry))) (now (out .exit)) r ⌝ }
 {
     let r = recover::recover(m);
     let number = r.number;
@@ -277,7 +276,7 @@ fn show_end(m: &[u8], out: &mut [u8], w: WindowState) -> WindowState
 
 // Of the text of a medium the bytes from this one on, as far as the list is long, at its front; the answer is how many these are.
 pub fn window(m: &[u8], from: usize, out: &mut [u8]) -> usize
-    ensures { λ r. ⌜ Holds (now (out .exit)) r (window-of from (length (now (out .entry))) (pagesText (now (m .entry)))) ⌝ }
+    ensures { λ r. ⌜ Sees (pagesText (now (m .entry))) from (now (out .exit)) r ⌝ }
 {
     let w = WindowState {
         skip: from,

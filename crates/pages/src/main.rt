@@ -1,41 +1,38 @@
-// Reads one medium of at most 1048576 bytes from standard input and prints what its pages are: `pagesText` of what was read, and one byte past 1048576 is read
-// to tell that there are more. The text is longer than the memory that it is made in, so it is made and written window by window. Where reading or writing
-// fails that is told on standard error; after a failed read nothing is printed, after a failed write nothing more.
+// Reads one medium of at most 1048576 bytes from standard input and prints what its pages are: `pagesText` of what was read, and one byte
+// past 1048576 is read to tell that there are more. The text is longer than the memory that it is made in, so it is made and printed part
+// after part. Where reading or writing fails that is told on standard error; after a failed read nothing is printed, after a failed write
+// nothing more.
 ghost use mathlib.Core.Path.{_≡_};
-ghost use Prim.Native.Nat.{_≤_, _<_};
+ghost use Prim.Native.Nat.{_<_};
 ghost use lib.ListN.{length};
-ghost use Rattle.pages.specs.Written.{WritesAll};
+ghost use Rattle.text.specs.Parts.{PartAt, PrintsAll};
+ghost use Rattle.page_text.specs.PageText.{pagesText};
+use text::Printed;
 
-// What was written: how many bytes, and whether a write failed.
-struct Written {
-    failed: bool,
-    count: usize,
-}
-
-// The first k bytes of a list on standard output; whether they could be written.
-fn write_front(out: &[u8], k: usize) -> bool
-    requires { ⌜ k ≤ length (now out) ⌝ }
+// Bytes of the text of a medium on standard output, of which those before this place were written; whether they were written.
+fn write_part(m: &[u8], from: usize, part: &[u8]) -> bool
+    requires { ⌜ PartAt (pagesText (now m)) from (now part) ⌝ }
 {
-    streams::write(&out[..k])
+    streams::write(part)
 }
 
-// The text of a medium on standard output, as many bytes at a time as the lent list is long.
-fn write(m: &[u8], out: &mut [u8]) -> Written
+// The text of a medium, as many bytes at a time as the lent list is long.
+fn print(m: &[u8], out: &mut [u8]) -> Printed
     requires { ⌜ 0 < length (now out) ⌝ }
-    ensures { λ r. ⌜ WritesAll (now (m .entry)) r ⌝ }
+    ensures { λ r. ⌜ PrintsAll (pagesText (now (m .entry))) r ⌝ }
 {
     let mut from: usize = 0;
     loop {
         let k = page_text::window(m, from, out);
-        if !write_front(out, k) {
-            return Written {
+        if !write_part(m, from, &out[..k]) {
+            return Printed {
                 failed: true,
                 count: from,
             };
         }
         from += k;
         if k < out.len() {
-            return Written {
+            return Printed {
                 failed: false,
                 count: from,
             };
@@ -65,5 +62,5 @@ fn main() {
     }
     let n = r.count;
     let mut out = text_room();
-    write(&b[..n], &mut out);
+    print(&b[..n], &mut out);
 }

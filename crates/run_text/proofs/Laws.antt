@@ -16,14 +16,17 @@ use Rattle.lists.proofs.Laws.{by-cases, length-table, get-table, length-pairs}
 use Rattle.text.specs.declared.WindowState.{WindowState}
 use Rattle.text.specs.Text.{ascii, decimal, Puts, Holds}
 use Rattle.text.specs.Window.{window, windowFrom, Shows}
+use Rattle.text.specs.Parts.{mostPrinted, Sees}
 use Rattle.text.proofs.Laws.{puts-all}
 use Rattle.text.proofs.Window.{shows-none, shows-then, shows-window, shows-full, length-window}
+use Rattle.text.proofs.Parts.{sees-shown}
 use Rattle.codec.proofs.Put.{length-blank}
 use Rattle.page.specs.Buffer.{bufferBytes}
 use Rattle.flash.specs.Medium.{views}
 use Rattle.nodes.specs.Nodes.{words}
+use Rattle.nodes.proofs.Alive.{words-length}
 use Rattle.listing.specs.Listing.{refusalLine, logLine, setLine, settingLine}
-use Rattle.listing.proofs.Whole.{few-refusal, few-log, few-set, few-setting, length-words}
+use Rattle.listing.proofs.Whole.{few-refusal, few-log, few-set, few-setting}
 use Rattle.trace.specs.Trace.{Recorded, callCount, codeAt, numberAt, dataSize, dataStart, wellFormed, recordedAt, recorded}
 use Rattle.trace.specs.Read.{Listed, HasCall}
 use Rattle.trace.proofs.Laws.{Summed, sum-start, start-next}
@@ -38,7 +41,7 @@ use Rattle.reply_lines.specs.declared.PrintedLine.{PrintedLine}
 use Rattle.reply_lines.specs.Printed.{lineOf, CountsLines, GivesLine}
 use Rattle.run_text.specs.declared.Run.{Run}
 use Rattle.run_text.specs.RunText.{lineText, linesText, runText}
-use Rattle.run_text.specs.Running.{mostLine, mostOfCall, mostText, Sees, leftIn, Stands, Standing, StartsRun, Ready, Turns}
+use Rattle.run_text.specs.Running.{mostLine, mostOfCall, leftIn, Stands, Standing, StartsRun, Ready, Turns}
 
 -- ---- one line
 
@@ -98,7 +101,7 @@ few-reply m r f =
     (λ q. rw q
     (let S : List Setting = words (views m) (listed (r .last .state .index)) in
     let i = f .most q in
-    let n = length-words (views m) (listed (r .last .state .index)) in
+    let n = words-length (views m) (listed (r .last .state .index)) in
     let k = length-pairs (r .last .state .index .count) (r .last .state .index .keys) (r .last .state .index .vals) in
     let z = length-append (setLine (length S)) (linesText (settingLines S)) in
     let y = length-append (logLine (r .log)) (setLine (length S) ++ linesText (settingLines S)) in
@@ -322,7 +325,7 @@ module _ (t : List ℕ) (from : ℕ) (m₀ b₀ out₀ : List ℕ) (x : Run) (m 
 
   module _ (w : wellFormed t ≡ true) where
     -- no window reaches past what was told
-    told-low : from + x .window .filled ≤ max from mostText
+    told-low : from + x .window .filled ≤ max from mostPrinted
     told-low =
         let h = shows-window (R .shows) in
         let l = formed-lists t w in
@@ -372,12 +375,8 @@ pub broken-is : (from : ℕ) (out out′ : List ℕ) (x : WindowState) → Shows
     → Sees (refusalLine 26) from out′ (x .filled)
 unfolding lineText lineOf
 broken-is from out out′ x s =
-    let h = shows-window s in
-    let l = s .long in
-    let f = few-refusal 26 in
-    let p = h .part in
-    let g : Holds out′ (x .filled) (window from (length out′) (refusalLine 26)) = rw l h in
-    record { holds = g; low = omega (arith, ap length (h .is), length-window from (length out) (refusalLine 26)) }
+    let f : length (refusalLine 26) ≤ mostPrinted = omega (arith, few-refusal 26) in
+    sees-shown f s
 
 module _ (t : List ℕ) (r : Bool) (e : r ≡ wellFormed t) where
   pub window-broken : not r ≡ true → (from : ℕ) (out : List ℕ) (n : ℕ) → Sees (refusalLine 26) from out n → Sees (runText t) from out n

@@ -2,15 +2,14 @@
 use mathlib.Core.Path.{_≡_}
 use mathlib.Core.Bool.{true}
 use mathlib.Core.List.{List, _++_}
-use Prim.Native.Nat.{ℕ, _+_, _*_, _≤_, _<_, max}
+use Prim.Native.Nat.{ℕ, _+_, _≤_, _<_}
 use lib.ListN.{length, take, drop}
 use Rattle.page.specs.Buffer.{bufferBytes}
 use Rattle.trace.specs.Trace.{callCount, wellFormed, recorded, dataStart}
 use Rattle.player.specs.declared.LastState.{LastState}
 use Rattle.player.specs.Run.{linesFrom}
 use Rattle.player.specs.Played.{worldBy}
-use Rattle.text.specs.Text.{Holds}
-use Rattle.text.specs.Window.{window, windowFrom, Shows}
+use Rattle.text.specs.Window.{windowFrom, Shows}
 use Rattle.run_text.specs.declared.Run.{Run}
 use Rattle.run_text.specs.RunText.{linesText, runText}
 
@@ -21,15 +20,6 @@ mostLine = 64
 -- so many hold the lines of one call: two of at most 25 bytes and 192 of at most 42
 abbrev pub mostOfCall : ℕ
 mostOfCall = 8192
-
--- so many hold the text of a trace: its 65536 bytes hold fewer than 4096 calls
-abbrev pub mostText : ℕ
-mostText = 33554432
-
--- What `window` promises of a text: the window from this byte on stands at the front of the list, and no window reaches past the longest text.
-pub record Sees (text : List ℕ) (from : ℕ) (out : List ℕ) (r : ℕ) : Type 0 where
-  pub holds : Holds out r (window from (length out) text)
-  pub low : from + r ≤ max from mostText
 
 -- ---- the run
 

@@ -13,8 +13,8 @@ window from size text = take size (drop from text)
 abbrev pub windowFrom : ℕ → WindowState
 windowFrom from = record { skip = from; filled = 0 }
 
--- What is promised of a function that is handed the next piece of a text, with the window's list and its state, and leaves both as they are after
--- that piece: what lies before the window is skipped, what lies in it is put behind what is there, as far as the list is long.
+-- What is promised of a function that is handed the next piece of a text, with the window's list and its state, and leaves both as they
+-- are after that piece: what lies before the window is skipped, what lies in it is put behind what is there, as far as the list is long.
 pub record Shows (out : List ℕ) (w : WindowState) (text out′ : List ℕ) (w′ : WindowState) : Type 0 where
   pub long : length out′ ≡ length out
   pub skip : w′ .skip ≡ w .skip - length text

@@ -55,8 +55,8 @@ pub struct WindowState {
     pub filled: usize,
 }
 
-// The next piece of a text that is seen through a window: what lies before the window is skipped, what lies in it is put into the list, as far as
-// that is long.
+// The next piece of a text that is seen through a window: what lies before the window is skipped, what lies in it is put into the list,
+// as far as that is long.
 pub fn put_in_window(out: &mut [u8], w: WindowState, s: &[u8]) -> WindowState
     ensures { λ r. ⌜ Shows (now (out .entry)) w (now (s .entry)) (now (out .exit)) r ⌝ }
 {
@@ -70,4 +70,10 @@ pub fn put_in_window(out: &mut [u8], w: WindowState, s: &[u8]) -> WindowState
     }
     let n = put(out, filled, &s[skip..]);
     WindowState { skip: 0, filled: n }
+}
+
+// How much of a text was printed, part by part: whether a write failed, and how many bytes were written before it.
+pub struct Printed {
+    pub failed: bool,
+    pub count: usize,
 }

@@ -6,23 +6,23 @@ use Rattle.rerun.proofs.rerun.Reads as reads
 use Rattle.rerun.proofs.rerun.Lts as lts
 use Rattle.rerun.proofs.print.Reads as print-reads
 
--- src/main.rt:53:14
+-- src/main.rt:49:14
 slice-aggregate-print : tie.Need-slice-aggregate-print
 slice-aggregate-print c = search needs
 
--- src/main.rt:53:22
+-- src/main.rt:49:22
 slice-aggregate-print-2 : tie.Need-slice-aggregate-print-2
 slice-aggregate-print-2 c = search needs
 
--- src/main.rt:53:30
+-- src/main.rt:49:30
 slice-aggregate-print-3 : tie.Need-slice-aggregate-print-3
 slice-aggregate-print-3 c = search needs
 
--- src/main.rt:53:5
+-- src/main.rt:49:5
 print-requires : tie.Need-print-requires
 print-requires c κs = (search needs, search needs, search (some-room, needs))
 
--- src/main.rt:49:1
+-- src/main.rt:45:1
 returns : tie.Need-returns
 returns c = search needs
 
