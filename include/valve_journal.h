@@ -146,30 +146,30 @@ static inline const char *vj_refusal_text(uint8_t number)
  * tests/tests/stack.rs measures it anew, and fails where a call takes more than is said here, or over 2048 bytes less. VJ_STACK_MOST is enough
  * for every call. */
 enum {
-    VJ_STACK_RECOVER = 73728,
-    VJ_STACK_LOG = 68608,
-    VJ_STACK_READER = 68608,
+    VJ_STACK_RECOVER = 33792,
+    VJ_STACK_LOG = 29696,
+    VJ_STACK_READER = 29696,
     VJ_STACK_CHANGE = 1024,
-    VJ_STACK_NEWS = 68608,
-    VJ_STACK_EFFECT = 107520,
-    VJ_STACK_MATTERED = 173056,
+    VJ_STACK_NEWS = 29696,
+    VJ_STACK_EFFECT = 67584,
+    VJ_STACK_MATTERED = 76800,
     VJ_STACK_PAGE = 1024,
     VJ_STACK_OPENING = 11264,
     VJ_STACK_SETTINGS = 13312,
-    VJ_STACK_PICK = 11264,
+    VJ_STACK_PICK = 13312,
     VJ_STACK_SURVEY = 16384,
     VJ_STACK_AVAILABLE = 11264,
     VJ_STACK_WORD = 15360,
     VJ_STACK_WANTED = 20480,
-    VJ_STACK_NEXT = 21504,
+    VJ_STACK_NEXT = 19456,
     VJ_STACK_FORMAT = 5120,
     VJ_STACK_APPEND = 20480,
     VJ_STACK_COMMIT = 20480,
-    VJ_STACK_COLLECT = 19456,
+    VJ_STACK_COLLECT = 20480,
     VJ_STACK_FLUSH = 23552,
     VJ_STACK_BUFFER = 21504,
     VJ_STACK_STEP = 29696,
-    VJ_STACK_MOST = 173056
+    VJ_STACK_MOST = 76800
 };
 
 /* A list of at most VJ_MOST_VALVES numbers under keys, the number under keys[i] in vals[i]. In the index: a valve and the address of its entry,
