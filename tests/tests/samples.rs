@@ -134,15 +134,21 @@ fn what_the_samples_hold() {
     }
 }
 
+/// The lines of a part of a document that are set apart by four spaces.
+fn set_apart(text: &str) -> impl Iterator<Item = &str> {
+    text.lines().filter_map(|line| line.strip_prefix("    "))
+}
+
 /// The medium that docs/FORMAT.md reads by hand is the sample's first three pages
-/// alone, and it says what is printed of that.
+/// alone, and it says what `morning` and `pages` print of that.
 #[test]
 fn the_pages_that_are_read_by_hand() {
     let text = file("docs/FORMAT.md");
     let section = text.split("\n## Example: the sample medium\n").nth(1).expect("its section");
     let section = section.split("\n## ").next().expect("its section");
+    let (bytes, pages) = section.split_once("\nThe program `pages` prints").expect("what it prints");
     let (mut listed, mut printed) = (vec![0xFF; 4 * BLOCK_BYTES], String::new());
-    for line in section.lines().filter_map(|line| line.strip_prefix("    ")) {
+    for line in set_apart(bytes) {
         let Some((offset, bytes)) = line.split_once("  ") else {
             printed += &format!("{line}\n");
             continue;
@@ -155,4 +161,6 @@ fn the_pages_that_are_read_by_hand() {
     let three = 3 * PAGE_BYTES;
     assert!(listed[..three] == medium()[..three] && listed[three..].iter().all(|&b| b == 0xFF));
     assert_eq!(reader::morning(&listed), printed);
+    let told: String = set_apart(pages).map(|line| format!("{line}\n")).collect();
+    assert_eq!(common::printed("pages", &listed), told);
 }
