@@ -1,6 +1,7 @@
 // Reads one medium of at most 65536 bytes from standard input and prints its listing: the log, then each valve that is set with its word;
 // or `refused` and the number, 1 for more bytes. What is printed is `listing` of what was read, and one byte past 65536 is read to tell
 // that there are more. Where reading or writing fails that is told on standard error, and after a failed read nothing is printed.
+#![tactic(auto)]
 
 fn main() {
     let mut b = [0u8; 65537];

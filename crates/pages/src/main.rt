@@ -2,6 +2,8 @@
 // past 1048576 is read to tell that there are more. The text is longer than the memory that it is made in, so it is made and printed part
 // after part. Where reading or writing fails that is told on standard error; after a failed read nothing is printed, after a failed write
 // nothing more.
+#![tactic(auto)]
+
 ghost use Rattle.std.specs.Prelude.{◌≡◌, ◌<◌, length};
 ghost use Rattle.text.specs.Parts.{PartAt, PrintsAll};
 ghost use Rattle.page_text.specs.PageText.{pages_text};

@@ -1,4 +1,5 @@
 // Lines on standard output, for the programs that run the papers' examples: text, numbers, answers of calls, and listings.
+#![tactic(auto)]
 
 // Text as it is.
 pub fn text(s: &[u8]) {

@@ -1,6 +1,8 @@
 // Reads a trace of at most 65536 bytes from standard input and prints the text of its run; `refused 26` alone where it breaks the form,
 // as one of more bytes does. What is printed is `run_text` of what was read, part after part, and one byte past 65536 is read to tell that
 // there are more. Where reading or writing fails that is told on standard error, and after a failed read nothing is printed.
+#![tactic(auto)]
+
 ghost use Rattle.std.specs.Prelude.{◌≡◌, ◌<◌, length};
 ghost use Rattle.text.specs.Parts.{PartAt, PrintsAll};
 ghost use Rattle.page.specs.Buffer.{buffer_bytes};

@@ -1,16 +1,18 @@
 // Standard input and standard output, and what is told on standard error where they fail.
+#![tactic(auto)]
+
 ghost use Rattle.std.specs.Prelude.{◌≤◌, ◌≡◌, length};
 ghost use Rattle.streams.specs.Streams.{Got, Moved, after_read};
 
 // What was read: how many bytes; none where a read failed.
-#[derive(Drop)]
+#[derive(Clone, Copy)]
 pub struct Input {
     pub failed: bool,
     pub count: usize,
 }
 
 // What was read so far, and whether reading is over.
-#[derive(Drop)]
+#[derive(Clone, Copy)]
 struct Reading {
     over: bool,
     input: Input,
