@@ -1,0 +1,6 @@
+use Rattle.wanted.proofs.Laws.{refused_is}
+use borrow.Author.Rules.{rules}
+use Rattle.wanted.proofs.refused.Goals as goal
+
+pub returns : goal.returns
+returns c = search refused_is
