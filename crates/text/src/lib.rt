@@ -1,4 +1,6 @@
 // Text put into a lent list of bytes.
+#![tactic(auto)]
+
 ghost use Rattle.std.specs.Prelude.{min, ◌≡◌, ◌++◌};
 ghost use Rattle.text.specs.Text.{ascii, decimal, Puts};
 ghost use Rattle.text.specs.Window.{Shows};
