@@ -1,15 +1,18 @@
 // Reads one medium of at most 65536 bytes from standard input and prints its listing: the log, then each valve that is set with its word;
 // or `refused` and the number, 1 for more bytes. What is printed is `listing` of what was read, and one byte past 65536 is read to tell
 // that there are more. Where reading or writing fails that is told on standard error, and after a failed read nothing is printed.
+#![tactic(auto)]
 
-fn main() {
+use std::io;
+
+fn main(rt: HostRuntime) {
     let mut b = [0u8; 65537];
-    let r = streams::read(&mut b);
+    let r = streams::read(&mut rt.stdin(), &rt, &mut b);
     if r.failed {
         return;
     }
     let n = r.count;
     let mut out = [0u8; 524288];
     let k = listing::medium(&b[..n], &mut out);
-    streams::write(&out[..k]);
+    streams::write(&mut io::writer(&rt), &rt, &out[..k]);
 }
