@@ -1,1 +1,2 @@
 // The user's archive: definitions and theorems.
+#![tactic(auto)]

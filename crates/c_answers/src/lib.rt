@@ -1,4 +1,6 @@
 // Answers in the forms that C takes, where the library's own is none: the survey in one list, the place of a page.
+#![tactic(auto)]
+
 ghost use Rattle.std.specs.Prelude.{◌≡◌};
 ghost use Rattle.c_answers.specs.Forms.{IsPage, joined as Joined-of, SurveysInOne};
 
@@ -6,7 +8,7 @@ use state::State;
 
 // A part of the medium.
 #[repr(C)]
-#[derive(Drop)]
+#[derive(Clone, Copy)]
 pub struct VjPart {
     pub offset: usize,
     pub length: usize,
@@ -17,7 +19,7 @@ pub const COUNTS: usize = 3 * flash::BLOCKS;
 
 // 0 and the survey, its rows of three counts one after another; or a refusal's number, and every count 0.
 #[repr(C)]
-#[derive(Drop)]
+#[derive(Clone, Copy)]
 pub struct VjSurvey {
     pub number: u8,
     pub counts: [u16; COUNTS],

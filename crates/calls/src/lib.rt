@@ -1,1 +1,2 @@
 // The calls that begin an operation. Definitions only.
+#![tactic(auto)]

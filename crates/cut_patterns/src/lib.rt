@@ -1,4 +1,6 @@
 // A cut by its pattern: the pattern's bits set in a page or a block, and what a cut leaves of a step.
+#![tactic(auto)]
+
 ghost use Rattle.std.specs.Prelude.{◌≡◌, ◌*◌, ◌≤◌, length};
 ghost use Rattle.codec.specs.Codec.{put_at};
 ghost use Rattle.cut_patterns.specs.Cuts.{raised, raised_at};

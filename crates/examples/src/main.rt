@@ -1,4 +1,6 @@
 // Runs the papers' test pages and test media on the proved functions and prints what they give.
+#![tactic(auto)]
+
 ghost use Rattle.std.specs.Prelude.{◌≡◌, ◌≤◌, length};
 
 use print::{line, text};

@@ -1,4 +1,6 @@
 // What the pages of a medium are, which `pages` prints, as text in a lent list of bytes.
+#![tactic(auto)]
+
 ghost use Rattle.std.specs.Prelude.{◌≡◌, ◌≤◌, ◌<◌, ◌/◌, min, length};
 ghost use Rattle.text.specs.Text.{Puts, Holds};
 ghost use Rattle.text.specs.Window.{Shows};

@@ -1,4 +1,6 @@
 // A recorded call played: what it does to medium, state and buffer, and its reply.
+#![tactic(auto)]
+
 ghost use Rattle.std.specs.Prelude.{◌≡◌, ◌*◌, ◌≤◌, ◌<◌, length, true};
 ghost use Rattle.flash.specs.Medium.{views};
 ghost use Rattle.codec.specs.Codec.{blank};
@@ -18,7 +20,7 @@ use operations::Stepped;
 use state::State;
 
 // The state last handed back; it is lost after a cut, until a recovery gives one. What `state` then holds means nothing.
-#[derive(Drop)]
+#[derive(Clone, Copy)]
 pub struct LastState {
     pub lost: bool,
     pub state: State,
@@ -26,7 +28,7 @@ pub struct LastState {
 
 // How a recorded call went: the number that it was refused with, or 0; whether it was a recovery that was accepted, and then the length of its log;
 // whether the run ends with it; and the state.
-#[derive(Drop)]
+#[derive(Clone, Copy)]
 pub struct Reply {
     pub number: u8,
     pub recovered: bool,
@@ -167,7 +169,7 @@ fn restored(log: usize, s: State) -> Reply
 }
 
 // Recovery's answer: the number that it was refused with, or 0 and the length of the log and the state.
-#[derive(Drop)]
+#[derive(Clone, Copy)]
 struct Recalled {
     number: u8,
     log: usize,

@@ -1,1 +1,2 @@
 // What a reading of the journal answers. Definitions only.
+#![tactic(auto)]

@@ -1,17 +1,19 @@
 // A lent list of records, each a valve and its word, walked once; the walk notes whether the valves rise, and how many records there are.
+#![tactic(auto)]
+
 ghost use Rattle.std.specs.Prelude.{◌≡◌};
 ghost use Rattle.records.specs.Records.{unnoted, still_rises, noted, noted_all};
 
 // A valve and its word.
 #[repr(C)]
-#[derive(Drop)]
+#[derive(Clone, Copy)]
 pub struct Record {
     pub valve: u16,
     pub word: u64,
 }
 
 // What a walk over records has noted.
-#[derive(Drop)]
+#[derive(Clone, Copy)]
 pub struct Notes {
     // Whether the valves rise strictly, each below 32768.
     pub rises: bool,

@@ -1,1 +1,2 @@
 // Recovery. Definitions only.
+#![tactic(auto)]

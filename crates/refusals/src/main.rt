@@ -1,4 +1,6 @@
 // Makes the small example of each number in the papers' tables of refusals, and prints what the call answered.
+#![tactic(auto)]
+
 use trials::{
     APPEND, APPENDED, BUFFER, BUFFER_VALVES, BYTE, COLLECT, COMMIT, CUT, FORMATTED, PUT, RECOVER,
     SET, STEP, VALVES,

@@ -1,4 +1,6 @@
 // The lines that are printed of a reply to a recorded call.
+#![tactic(auto)]
+
 ghost use Rattle.std.specs.Prelude.{◌≡◌, ◌≤◌, ◌<◌};
 ghost use Rattle.lists.specs.Lists.{value_or};
 ghost use Rattle.lists.specs.Cells.{listed};
@@ -11,7 +13,7 @@ use lists::{Cell, Cells, Found};
 use player::Reply;
 
 // A line to print: by its kind a refusal's number, the log's length, the number of valves set, or a valve and its word.
-#[derive(Drop)]
+#[derive(Clone, Copy)]
 pub struct PrintedLine {
     pub kind: u8,
     pub first: u64,

@@ -1,4 +1,6 @@
 // The text of a recorded run, which `rerun` prints, seen through a window: a lent list of bytes that may be shorter than the text.
+#![tactic(auto)]
+
 ghost use Rattle.std.specs.Prelude.{◌≡◌, true, cond, ◌+◌, ◌*◌, ◌-◌, ◌≤◌, length};
 ghost use Rattle.text.specs.Text.{Holds};
 ghost use Rattle.text.specs.Window.{Shows};
@@ -16,7 +18,7 @@ use reply_lines::PrintedLine;
 use text::WindowState;
 
 // Where a run stands: the window, how many calls are left (0: the run is over), the call that is next, the place of its bytes, and the state.
-#[derive(Drop)]
+#[derive(Clone, Copy)]
 pub struct Run {
     pub window: WindowState,
     pub left: usize,

@@ -1,1 +1,2 @@
 // One device step of the pending operation. Definitions only.
+#![tactic(auto)]

@@ -10,14 +10,14 @@ use std::io::{Error, ErrorKind, Read, Write};
 use std::{fmt, io};
 
 // What was read: how many bytes; none where a read failed.
-#[derive(Drop)]
+#[derive(Clone, Copy)]
 pub struct Input {
     pub failed: bool,
     pub count: usize,
 }
 
 // What was read so far, and whether reading is over.
-#[derive(Drop)]
+#[derive(Clone, Copy)]
 struct Reading {
     over: bool,
     input: Input,

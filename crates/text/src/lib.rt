@@ -50,7 +50,7 @@ pub fn line(out: &mut [u8], n: usize, word: &[u8], x: u64) -> usize
 }
 
 // How far a window on a text is filled: how many bytes of the text still come before it, and how many bytes of it are there.
-#[derive(Drop)]
+#[derive(Clone, Copy)]
 pub struct WindowState {
     pub skip: usize,
     pub filled: usize,
@@ -74,7 +74,7 @@ pub fn put_in_window(out: &mut [u8], w: WindowState, s: &[u8]) -> WindowState
 }
 
 // How much of a text was printed, part by part: whether a write failed, and how many bytes were written before it.
-#[derive(Drop)]
+#[derive(Clone, Copy)]
 pub struct Printed {
     pub failed: bool,
     pub count: usize,

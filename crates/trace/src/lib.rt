@@ -1,4 +1,6 @@
 // A trace of recorded calls: whether it has the form that Paper 13 lays down, and what it says of each call.
+#![tactic(auto)]
+
 ghost use Rattle.std.specs.Prelude.{◌≡◌, ◌+◌, ◌-◌, ◌*◌, ◌≤◌, ◌<◌, min, leb, eqb, length, take};
 ghost use Rattle.lists.specs.Lists.{all_below};
 ghost use Rattle.codec.specs.Codec.{part};

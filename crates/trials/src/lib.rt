@@ -1,5 +1,7 @@
 // Calls of the journal as a list of numbers, played one by one on a lent medium and write buffer: support for the two programs that run the papers' examples,
 // whose output is compared with a file. It is no part of the library, and promises little: see `Played`.
+#![tactic(auto)]
+
 ghost use Rattle.std.specs.Prelude.{◌≡◌, ◌<◌, ◌≤◌, length};
 ghost use Rattle.page.specs.Buffer.{buffer_bytes};
 ghost use Rattle.trials.specs.Played.{Played};
@@ -65,7 +67,7 @@ pub const BUFFER_VALVES: u64 = 48;
 pub const SET: u64 = 52;
 
 // How the last call of a list went: the number that refused it, or 0; the steps it tried; whether a cut lost the state; and the state.
-#[derive(Drop)]
+#[derive(Clone, Copy)]
 pub struct Trial {
     pub number: u8,
     pub steps: usize,

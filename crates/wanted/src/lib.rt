@@ -1,5 +1,7 @@
 // A group for wanted openings: the call over a medium, a state and a lent list of records. The list is walked twice: what 19 and 20 ask
 // is noted first, and after 6 each record is compared with the index.
+#![tactic(auto)]
+
 ghost use Rattle.std.specs.Prelude.{◌≡◌, true, ◌≤◌, length, take};
 ghost use Rattle.lists.specs.Lists.{all};
 ghost use Rattle.lists.specs.Needs.{refused, refusal_of};
@@ -21,7 +23,7 @@ use wanted_group::Compared;
 // The answer of `wanted`: 0 and whether at most 96 valves differ, with the group then, or a refusal's number. Beside a refusal `found` is false;
 // where there is no group, `group` holds no entry.
 #[repr(C)]
-#[derive(Drop)]
+#[derive(Clone, Copy)]
 pub struct WantedAnswer {
     pub number: u8,
     pub found: bool,
@@ -55,7 +57,7 @@ fn record_refusal(rises: bool, count: usize) -> u8
 
 // What stands before the records are compared: a refusal's number, or 0, how many records are to be compared, and the present settings.
 // Beside a refusal these are none.
-#[derive(Drop)]
+#[derive(Clone, Copy)]
 pub struct Begun {
     pub number: u8,
     pub count: usize,

@@ -1,4 +1,6 @@
 // The group that leads from settings to wanted ones: wanted records are compared with the present settings one by one.
+#![tactic(auto)]
+
 ghost use Rattle.std.specs.Prelude.{◌≡◌, true, ◌&&◌, ◌++◌, ◌≤◌, leb, length};
 ghost use Rattle.lists.specs.Lists.{all};
 ghost use Rattle.lists.specs.Cells.{cell, listed, pairs};
@@ -11,7 +13,7 @@ ghost use Rattle.wanted_group.specs.Compare.{not_compared, compared_with, unname
 use lists::Cells;
 
 // What wanted records, compared with the present settings one by one, have come to so far.
-#[derive(Drop)]
+#[derive(Clone, Copy)]
 pub struct Compared {
     // For each place of the present settings 0 until a record has named the valve there. The place past them is for valves that are not set.
     pub named: [u8; 193],
@@ -143,7 +145,7 @@ fn removals(present: Cells, c: Compared) -> Cells
 }
 
 // At most 96 entries. With `found` false there would be more, and `cells` holds none.
-#[derive(Drop)]
+#[derive(Clone, Copy)]
 pub struct Limited {
     pub found: bool,
     pub cells: Cells,
