@@ -1,13 +1,17 @@
 -- Laws of input that is read, in the shapes that the code's proofs ask.
-use Rattle.std.proofs.Common.{◌≡◌, refl, sym, true, false, List, ℕ, ◌+◌, ◌-◌, ◌≤◌, ◌<◌, min, Ok, Err, eqb, length, arith}
+use Rattle.std.proofs.Common.{◌≡◌, refl, sym, ap, ◌∙◌, true, false, List, ◌++◌, ℕ, ◌+◌, ◌-◌, ◌≤◌, ◌<◌, min, Ok, Err, IfOk, eqb, length, take, drop, length-drop, arith}
+use Rattle.std.proofs.Math.Seq.{take-add}
+use Rattle.std.proofs.KnownBytes.{Consumes-trans, Appends-trans, Appends-kept}
+use Rattle.std.specs.Io.KnownBytes.{Appends, Consumes, IsAtEnd, ReadConsumes, WriteAppends}
+use Rattle.std.specs.declared.option.Option.{Option}
 use lib.Seq.{length-take-le}
-use borrow.Author.Tests.{eqb-false}
+use borrow.Author.Tests.{eqb-true, eqb-false}
 use Rattle.std.specs.Result.{is_err}
 use Rattle.std.specs.declared.result.Result.{Result}
 use Rattle.lists.proofs.Laws.{true_false}
 use Rattle.streams.specs.declared.Input.{Input}
 use Rattle.streams.specs.declared.Reading.{Reading}
-use Rattle.streams.specs.Streams.{Got, Moved, after_read}
+use Rattle.streams.specs.Streams.{Got, Moved, Took, after_read}
 
 -- ---- one read more
 
@@ -60,3 +64,64 @@ module _ {E : Type 0} where
         go : (z : Result ℕ E) → (after_read size done z).input.count ≤ size
         go (Err _) = omega arith
         go (Ok k) = omega arith
+
+-- ---- bytes that are known
+
+-- the first bytes and some behind them
+take_behind : (done k : ℕ) (xs ys : List ℕ) → take done ys ≡ take done xs → take (done + k) ys ≡ take done xs ++ take k (drop done ys)
+take_behind done k xs ys e = take-add done k ys ∙ ap (λ (t : List ℕ). t ++ take k (drop done ys)) e
+
+took_behind : (old mid new : Option (List ℕ)) (before buf : List ℕ) (done k : ℕ) → take done buf ≡ take done before
+    → Consumes old mid (take done before) → done + k ≤ length buf → Consumes mid new (take k (drop done buf))
+    → Consumes old new (take (done + min k (length buf - done)) buf)
+took_behind old mid new before buf done k e p b q =
+    let m : min k (length buf - done) ≡ k = omega arith in
+    rw (m, take_behind done k before buf e) (Consumes-trans old mid new _ _ p q)
+
+module _ {E : Type 0} (old mid new : Option (List ℕ)) where
+  -- a read behind the bytes that were read before
+  module _ (before buf : List ℕ) (done : ℕ) (front : take done buf ≡ take done before) (p : Consumes old mid (take done before)) where
+    module _ (a : Result ℕ E) (x : Reading) (e : x ≡ after_read (length buf) done a) (b : IfOk a (λ n. done + n ≤ length buf))
+        (q : ReadConsumes mid new a (drop done buf)) where
+      pub took_more : x.input.failed ≡ false → Consumes old new (take x.input.count buf)
+      unfolding after_read
+      took_more = rw e (go a b q)
+        where
+          go : (z : Result ℕ E) → IfOk z (λ n. done + n ≤ length buf) → ReadConsumes mid new z (drop done buf)
+              → (after_read (length buf) done z).input.failed ≡ false → Consumes old new (take (after_read (length buf) done z).input.count buf)
+          go (Err _) b q f = true_false refl f
+          go (Ok k) b q f = took_behind old mid new before buf done k front p b q.0
+
+      pub not_failed : x.over ≡ false → x.input.failed ≡ false
+      unfolding after_read
+      not_failed = rw e (go a)
+        where
+          go : (z : Result ℕ E) → (after_read (length buf) done z).over ≡ false → (after_read (length buf) done z).input.failed ≡ false
+          go (Err _) o = true_false refl o
+          go (Ok k) o = refl
+
+      pub took_end : done < length buf → x.over ≡ true → x.input.failed ≡ false → IsAtEnd new
+      unfolding after_read
+      took_end h = rw e (go a b q)
+        where
+          go : (z : Result ℕ E) → IfOk z (λ n. done + n ≤ length buf) → ReadConsumes mid new z (drop done buf)
+              → (after_read (length buf) done z).over ≡ true → (after_read (length buf) done z).input.failed ≡ false → IsAtEnd new
+          go (Err _) b q o f = true_false refl f
+          go (Ok k) b q o f =
+              let n = eqb-true (min k (length buf - done)) 0 o in
+              q.1 (omega arith) (omega (arith, length-drop done buf))
+
+      -- the reading that ends so
+      pub took_after : done < length buf → x.over ≡ true → (r : Input) → r ≡ x.input → Took old new buf r
+      took_after h o r i = rw i (record { bytes = took_more; end = λ f _. took_end h o f })
+
+  -- a write behind the bytes that were written before
+  pub gave_more : (text : List ℕ) (done : ℕ) (a : Result ℕ E) (r : ℕ) → IfOk a (λ n. done + n ≤ length text)
+      → Moved (length text) done a r → Appends old mid (take done text) → WriteAppends mid new a (drop done text)
+      → Appends old new (take (done + r) text)
+  gave_more text done (Err _) r b m p q =
+      let z : done + r ≡ done = omega (arith, m.is) in
+      rw z (Appends-kept old mid new _ p q)
+  gave_more text done (Ok k) r b m p q =
+      let z : r ≡ k = omega (arith, m.is) in
+      rw (z, take-add done k text) (Appends-trans old mid new _ _ p q)

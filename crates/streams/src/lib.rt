@@ -2,8 +2,9 @@
 // that of one whose bytes are known the promises say which bytes are read and written.
 #![tactic(auto)]
 
-ghost use Rattle.std.specs.Prelude.{◌≤◌, ◌≡◌, length, min};
-ghost use Rattle.streams.specs.Streams.{Got, Moved, after_read};
+ghost use Rattle.std.specs.Prelude.{true, ◌≡◌, ◌+◌, ◌≤◌, min, length, take, drop, IfOk, IsErr};
+ghost use Rattle.std.specs.Io.KnownBytes.{ReadConsumes, WriteAppends};
+ghost use Rattle.streams.specs.Streams.{Gave, Got, Moved, Took, after_read};
 
 use std::fmt::Write as _;
 use std::io::{Error, ErrorKind, Read, Write};
@@ -27,7 +28,9 @@ struct Reading {
 const AGAIN: usize = 1000;
 
 // Whether a call that gave this answer was interrupted by a signal before it moved a byte.
-fn interrupted(answer: io::Result<usize>) -> bool {
+fn interrupted(answer: io::Result<usize>) -> bool
+    ensures { result ≡ true → IsErr answer }
+{
     match answer {
         Ok(_) => false,
         Err(e) => e.kind() == ErrorKind::Interrupted,
@@ -55,6 +58,9 @@ fn moved(bytes: &[u8], at: usize, answer: io::Result<usize>) -> usize
 // One read into the bytes from place `at` on: its answer.
 fn read_once<R: Read>(input: &mut R, buf: &mut [u8], at: usize) -> io::Result<usize>
     requires { at ≤ length buf.old }
+    ensures front { take at buf.new ≡ take at buf.old }
+    ensures bound { IfOk result (λ n. at + n ≤ length buf.new) }
+    ensures bytes { ReadConsumes (R.remaining input.old) (R.remaining input.new) result (drop at buf.new) }
 {
     input.read(&mut buf[at..])
 }
@@ -62,6 +68,9 @@ fn read_once<R: Read>(input: &mut R, buf: &mut [u8], at: usize) -> io::Result<us
 // The same, made again where a signal interrupts it.
 fn read_some<R: Read>(input: &mut R, buf: &mut [u8], at: usize) -> io::Result<usize>
     requires { at ≤ length buf.old }
+    ensures front { take at buf.new ≡ take at buf.old }
+    ensures bound { IfOk result (λ n. at + n ≤ length buf.new) }
+    ensures bytes { ReadConsumes (R.remaining input.old) (R.remaining input.new) result (drop at buf.new) }
 {
     let mut left: usize = AGAIN;
     while 0 < left {
@@ -140,7 +149,8 @@ fn told(errors: &impl Eprint, input: Input, answer: io::Result<usize>) -> Input
 // Standard input to its end, or as much of it as the list is long. A read that fails is not taken for the end: it is told on standard
 // error, with the reason, and the answer says so.
 pub fn read<R: Read>(input: &mut R, errors: &impl Eprint, buf: &mut [u8]) -> Input
-    ensures { Got buf.new result }
+    ensures got { Got buf.new result }
+    ensures took { Took (R.remaining input.old) (R.remaining input.new) buf.new result }
 {
     let mut done: usize = 0;
     while done < buf.len() {
@@ -161,6 +171,8 @@ pub fn read<R: Read>(input: &mut R, errors: &impl Eprint, buf: &mut [u8]) -> Inp
 // One write of the bytes from place `at` on: its answer.
 fn write_once<W: Write>(output: &mut W, text: &[u8], at: usize) -> io::Result<usize>
     requires { at ≤ length text.now }
+    ensures bound { IfOk result (λ n. at + n ≤ length text.now) }
+    ensures bytes { WriteAppends (W.contents output.old) (W.contents output.new) result (drop at text.now) }
 {
     output.write(&text[at..])
 }
@@ -168,6 +180,8 @@ fn write_once<W: Write>(output: &mut W, text: &[u8], at: usize) -> io::Result<us
 // The same, made again where a signal interrupts it.
 fn write_some<W: Write>(output: &mut W, text: &[u8], at: usize) -> io::Result<usize>
     requires { at ≤ length text.now }
+    ensures bound { IfOk result (λ n. at + n ≤ length text.now) }
+    ensures bytes { WriteAppends (W.contents output.old) (W.contents output.new) result (drop at text.now) }
 {
     let mut left: usize = AGAIN;
     while 0 < left {
@@ -191,7 +205,9 @@ fn write_failed(errors: &impl Eprint, answer: io::Result<usize>) {
 }
 
 // Bytes on standard output; whether all of them were written. Where not, that is told on standard error.
-pub fn write<W: Write>(output: &mut W, errors: &impl Eprint, text: &[u8]) -> bool {
+pub fn write<W: Write>(output: &mut W, errors: &impl Eprint, text: &[u8]) -> bool
+    ensures { Gave (W.contents output.old) (W.contents output.new) text.now result }
+{
     let mut done: usize = 0;
     while done < text.len() {
         let answer = write_some(output, text, done);
