@@ -11,151 +11,159 @@ use trials::{
 };
 
 // A word of the output, then a number, within a line.
-fn part(name: &[u8], n: u64) {
-    text(name);
-    print::number(n);
+fn part(rt: &(impl Print + Eprint), name: &[u8], n: u64) {
+    text(rt, name);
+    print::number(rt, n);
 }
 
 // What a page is.
-fn class(s: &[u8])
+fn class(rt: &(impl Print + Eprint), s: &[u8])
     requires { length s.now ≡ 256 }
 {
     if page::is_clean(s) {
-        text(b"clean\n");
+        text(rt, b"clean\n");
         return;
     }
     if !page::is_whole(s) {
-        text(b"spoilt\n");
+        text(rt, b"spoilt\n");
         return;
     }
     if page::is_lawful(s) {
-        text(b"whole, lawful\n");
+        text(rt, b"whole, lawful\n");
         return;
     }
-    text(b"whole, unlawful\n");
+    text(rt, b"whole, unlawful\n");
 }
 
 // The check of a page, and what the page is.
-fn about(s: &[u8]) {
+fn about(rt: &(impl Print + Eprint), s: &[u8]) {
     if s.len() != 256 {
         return;
     }
-    line(b"check ", codec::le16(s, 0) as u64);
-    line(b"zero bits ", page::zero_count(s) as u64);
-    class(s);
+    line(rt, b"check ", codec::le16(s, 0) as u64);
+    line(rt, b"zero bits ", page::zero_count(s) as u64);
+    class(rt, s);
 }
 
 // A byte, as two hexadecimal digits after a space.
-fn hex(x: u8) {
+fn hex(rt: &(impl Print + Eprint), x: u8) {
     let mut digits = [0u8; 16];
     let k = io::hex(x as u64, 2, &mut digits);
-    text(b" ");
-    text(&digits[..k]);
+    text(rt, b" ");
+    text(rt, &digits[..k]);
 }
 
 // The first nine bytes, a space before each.
-fn start(s: &[u8]) {
+fn start(rt: &(impl Print + Eprint), s: &[u8]) {
     if s.len() < 9 {
         return;
     }
     let mut i: usize = 0;
     while i < 9 {
-        hex(s[i]);
+        hex(rt, s[i]);
         i += 1;
     }
-    text(b"\n");
+    text(rt, b"\n");
 }
 
 // The empty base.
-fn base() {
+fn base(rt: &(impl Print + Eprint)) {
     let mut m = [255u8; 16384];
     trials::play(&mut m, &[FORMATTED]);
-    text(b"empty base, serial 1:");
-    start(flash::page(&m, 0));
-    about(flash::page(&m, 0));
+    text(rt, b"empty base, serial 1:");
+    start(rt, flash::page(&m, 0));
+    about(rt, flash::page(&m, 0));
 }
 
 // Page p of what a list of calls leaves.
-fn page_of(name: &[u8], calls: &[u64], p: usize) {
+fn page_of(rt: &(impl Print + Eprint), name: &[u8], calls: &[u64], p: usize) {
     let mut m = [255u8; 16384];
     trials::play(&mut m, calls);
-    text(name);
-    about(flash::page(&m, p));
+    text(rt, name);
+    about(rt, flash::page(&m, p));
 }
 
 // A node, which is page 1 of its medium, the node torn, and a blank page.
-fn pages() {
+fn pages(rt: &(impl Print + Eprint)) {
     page_of(
+        rt,
         b"kind 1, flags 3, n 1, serial 2, valve 5, word 1000:\n",
         &[FORMATTED, APPENDED, 1, 5, 1000],
         1,
     );
     page_of(
+        rt,
         b"the same with byte 16 left FFh:\n",
         &[FORMATTED, APPENDED, 1, 5, 1000, BYTE, 272, 255],
         1,
     );
-    page_of(b"all FFh:\n", &[], 0);
+    page_of(rt, b"all FFh:\n", &[], 0);
 }
 
 // The pages of an append of n entries.
-fn append_pages(n: u64) {
+fn append_pages(rt: &(impl Print + Eprint), n: u64) {
     let mut m = [255u8; 16384];
     let t = trials::play(&mut m, &[FORMATTED, SET, n, 1]);
-    print::number(n);
+    print::number(rt, n);
     if t.number != 0 {
-        print::answer(b" entries: ", t.number);
+        print::answer(rt, b" entries: ", t.number);
         return;
     }
-    line(b" entries: pages ", t.steps as u64);
+    line(rt, b" entries: pages ", t.steps as u64);
 }
 
 // The pages of a commit of `low` valves from 1 on and `high` from 97 on. An append of none is refused, and hands the state back.
-fn commit_pages(low: u64, high: u64) {
+fn commit_pages(rt: &(impl Print + Eprint), low: u64, high: u64) {
     let mut m = [255u8; 16384];
     let t = trials::play(&mut m, &[FORMATTED, SET, low, 1, SET, high, 97, COMMITTED]);
-    print::number(t.state.index.count as u64);
-    line(b" valves: pages of a commit ", t.steps as u64);
+    print::number(rt, t.state.index.count as u64);
+    line(rt, b" valves: pages of a commit ", t.steps as u64);
 }
 
 // The log and the settings that a list of calls leaves.
-fn left(name: &[u8], calls: &[u64]) {
+fn left(rt: &(impl Print + Eprint), name: &[u8], calls: &[u64]) {
     let mut m = [255u8; 16384];
     trials::play(&mut m, calls);
-    text(name);
-    print::medium(&m);
+    text(rt, name);
+    print::medium(rt, &m);
 }
 
 // An unset valve is removed: the log grows, the settings stay. A valve twice in a group.
-fn groups() {
-    left(b"valve 7 set to 20:\n", &[FORMATTED, APPENDED, 1, 7, 20]);
+fn groups(rt: &(impl Print + Eprint)) {
     left(
+        rt,
+        b"valve 7 set to 20:\n",
+        &[FORMATTED, APPENDED, 1, 7, 20],
+    );
+    left(
+        rt,
         b"valve 5, which is not set, removed:\n",
         &[FORMATTED, APPENDED, 1, 7, 20, APPENDED, 1, 32773, 0],
     );
     left(
+        rt,
         b"valve 5 twice in a group:\n",
         &[FORMATTED, APPENDED, 3, 5, 7, 5, 1000, 20, 30],
     );
 }
 
 // Condition 1 for a medium of n bytes.
-fn rule_1(name: &[u8], n: usize) {
+fn rule_1(rt: &(impl Print + Eprint), name: &[u8], n: usize) {
     if blocks::size_ok(n) {
-        print::answer(name, 0);
+        print::answer(rt, name, 0);
         return;
     }
-    print::answer(name, 1);
+    print::answer(rt, name, 1);
 }
 
 // The length of a medium in bytes.
-fn lengths() {
+fn lengths(rt: &(impl Print + Eprint)) {
     let sixteen = begin::format(&[255u8; 65536]);
-    print::answer(b"format of 65536 bytes: ", sixteen.number);
+    print::answer(rt, b"format of 65536 bytes: ", sixteen.number);
     let one_more = begin::format(&[255u8; 69632]);
-    print::answer(b"format of 69632 bytes: ", one_more.number);
-    rule_1(b"condition 1 for 1048576 bytes: ", 1048576);
-    rule_1(b"condition 1 for 1052672 bytes: ", 1052672);
+    print::answer(rt, b"format of 69632 bytes: ", one_more.number);
+    rule_1(rt, b"condition 1 for 1048576 bytes: ", 1048576);
+    rule_1(rt, b"condition 1 for 1052672 bytes: ", 1052672);
 }
 
 // The page programmed last: it stands before the head's next.
@@ -187,78 +195,79 @@ fn erased_block(s: State) -> usize {
 }
 
 // 30 entries, cut after their first page.
-fn cut() {
+fn cut(rt: &(impl Print + Eprint)) {
     let mut m = [255u8; 16384];
     let t = trials::play(&mut m, &[FORMATTED, VALVES, 30, 1, STEP]);
-    line(b"30 entries cut after page ", last_page(t.state) as u64);
-    print::medium(&m);
+    line(rt, b"30 entries cut after page ", last_page(t.state) as u64);
+    print::medium(rt, &m);
 }
 
 // The next append after the cut: its two steps.
-fn next_append() {
+fn next_append(rt: &(impl Print + Eprint)) {
     let calls = [
         FORMATTED, VALVES, 30, 1, STEP, RECOVER, APPEND, 1, 5, 1000, STEP, STEP,
     ];
     let mut m = [255u8; 16384];
     let t = trials::play(&mut m, &calls[..11]);
     line(
+        rt,
         b"the next append erases block ",
         erased_block(t.state) as u64,
     );
     let u = trials::play(&mut m, &calls);
     let p = last_page(u.state);
-    part(b"it starts in block ", (p / 16) as u64);
-    part(b", page ", (p % 16) as u64);
-    line(b", serial ", flash::page_serial(&m, p));
+    part(rt, b"it starts in block ", (p / 16) as u64);
+    part(rt, b", page ", (p % 16) as u64);
+    line(rt, b", serial ", flash::page_serial(&m, p));
 }
 
 // The pages that are available after format.
-fn available() {
+fn available(rt: &(impl Print + Eprint)) {
     let mut m = [255u8; 16384];
     let t = trials::play(&mut m, &[FORMATTED]);
     let r = read::available(&m, t.state);
-    part(b"format of 4 blocks: ", r.pages as u64);
-    text(b" available\n");
+    part(rt, b"format of 4 blocks: ", r.pages as u64);
+    text(rt, b" available\n");
 }
 
 // 48 groups of one page, the last of them refused: the base has serial 1, and each group that passes takes the next.
-fn filled() {
+fn filled(rt: &(impl Print + Eprint)) {
     let mut m = [255u8; 16384];
     let t = trials::play(&mut m, &trials::groups());
     let next = t.state.head.serial;
     if 2 <= next {
-        line(b"one-page groups that pass: ", next - 2);
+        line(rt, b"one-page groups that pass: ", next - 2);
     }
-    print::answer(b"the next: ", t.number);
+    print::answer(rt, b"the next: ", t.number);
 }
 
 // The picker's choice.
-fn picked(m: &[u8], s: State) {
+fn picked(rt: &(impl Print + Eprint), m: &[u8], s: State) {
     let r = read::pick(m, s);
     if r.number != 0 {
-        print::refused(r.number);
+        print::refused(rt, r.number);
         return;
     }
     if r.found {
-        line(b"the picker names block ", r.block);
+        line(rt, b"the picker names block ", r.block);
         return;
     }
-    text(b"the picker names none\n");
+    text(rt, b"the picker names none\n");
 }
 
 // A row of the survey.
-fn row(whole: u16, clean: u16, spoilt: u16) {
-    part(b"block 0: whole ", whole as u64);
-    part(b", clean ", clean as u64);
-    line(b", spoilt ", spoilt as u64);
+fn row(rt: &(impl Print + Eprint), whole: u16, clean: u16, spoilt: u16) {
+    part(rt, b"block 0: whole ", whole as u64);
+    part(rt, b", clean ", clean as u64);
+    line(rt, b", spoilt ", spoilt as u64);
 }
 
 // The survey's row of block 0, and the picker's choice.
-fn first_block(m: &[u8], s: State) {
+fn first_block(rt: &(impl Print + Eprint), m: &[u8], s: State) {
     let rows = read::survey(m, s);
     let first = rows[0];
-    row(first[0], first[1], first[2]);
-    picked(m, s);
+    row(rt, first[0], first[1], first[2]);
+    picked(rt, m, s);
 }
 
 // The document's sample, {5 to 1000, 7 to 20}, {remove 5}; then a recovery, which closes the head, a commit and the collection of block 0:
@@ -274,91 +283,96 @@ fn sample(m: &mut [u8], n: usize) -> Trial
 }
 
 // As far as the recovery.
-fn recovered() {
+fn recovered(rt: &(impl Print + Eprint)) {
     let mut m = [255u8; 16384];
     let t = sample(&mut m, 12);
-    text(b"{5 to 1000, 7 to 20}, {remove 5}:\n");
-    print::medium(&m);
-    first_block(&m, t.state);
+    text(rt, b"{5 to 1000, 7 to 20}, {remove 5}:\n");
+    print::medium(rt, &m);
+    first_block(rt, &m, t.state);
 }
 
 // As far as the commit, into the next block.
-fn committed() {
+fn committed(rt: &(impl Print + Eprint)) {
     let mut m = [255u8; 16384];
     let t = sample(&mut m, 13);
-    line(b"after a commit to page ", last_page(t.state) as u64);
-    print::medium(&m);
-    first_block(&m, t.state);
+    line(rt, b"after a commit to page ", last_page(t.state) as u64);
+    print::medium(rt, &m);
+    first_block(rt, &m, t.state);
 }
 
 // And the collection.
-fn collected() {
+fn collected(rt: &(impl Print + Eprint)) {
     let mut m = [255u8; 16384];
     let t = sample(&mut m, 15);
-    line(b"after the collection of block 0, steps ", t.steps as u64);
-    print::medium(&m);
-    first_block(&m, t.state);
+    line(
+        rt,
+        b"after the collection of block 0, steps ",
+        t.steps as u64,
+    );
+    print::medium(rt, &m);
+    first_block(rt, &m, t.state);
 }
 
 // The most answers that a reader gives of a medium of 4 blocks, 24 changes for each page and 'no more'.
 const ANSWERS: usize = 1537;
 
 // What a reader has after its last change: 'no more', or the number that refused it.
-fn over(number: u8) {
+fn over(rt: &(impl Print + Eprint), number: u8) {
     if number != 0 {
-        print::refused(number);
+        print::refused(rt, number);
         return;
     }
-    text(b"no more\n");
+    text(rt, b"no more\n");
 }
 
 // The log of such a medium through a log reader, its changes one by one.
-fn read_out(m: &[u8]) {
+fn read_out(rt: &(impl Print + Eprint), m: &[u8]) {
     let mut c = log_reader::first(m);
     let mut n: usize = 0;
     while n < ANSWERS {
         if !c.found {
-            over(c.next.number);
+            over(rt, c.next.number);
             return;
         }
-        print::change(c.group, c.key, c.word);
+        print::change(rt, c.group, c.key, c.word);
         c = log_reader::following(m, c.next);
         n += 1;
     }
 }
 
 // The sample read change by change, and a medium that was never formatted.
-fn change_by_change() {
+fn change_by_change(rt: &(impl Print + Eprint)) {
     let mut m = [255u8; 16384];
-    text(b"all FFh, change by change:\n");
-    read_out(&m);
+    text(rt, b"all FFh, change by change:\n");
+    read_out(rt, &m);
     sample(&mut m, 12);
-    text(b"{5 to 1000, 7 to 20}, {remove 5}, change by change:\n");
-    read_out(&m);
+    text(rt, b"{5 to 1000, 7 to 20}, {remove 5}, change by change:\n");
+    read_out(rt, &m);
 }
 
 // Bits that fade: the first n numbers of these calls, then one byte of the medium faded to FFh.
-fn faded(name: &[u8], n: usize, at: u64)
+fn faded(rt: &(impl Print + Eprint), name: &[u8], n: usize, at: u64)
     requires { n ≤ 15 }
 {
     let mut m = [255u8; 16384];
     sample(&mut m, n);
     trials::play(&mut m, &[BYTE, at, 255]);
-    text(name);
-    print::medium(&m);
+    text(rt, name);
+    print::medium(rt, &m);
 }
 
 // Page 2, the newest; page 1, which leaves a gap; the commit's base, behind which an older one stands; the same after the collection, when none does.
-fn fading() {
-    faded(b"the sample, its newest page faded:\n", 11, 529);
-    faded(b"the page before it faded:\n", 11, 272);
-    faded(b"after the commit, its base faded:\n", 13, 4104);
-    faded(b"after the collection, that base faded:\n", 15, 4104);
+fn fading(rt: &(impl Print + Eprint)) {
+    faded(rt, b"the sample, its newest page faded:\n", 11, 529);
+    faded(rt, b"the page before it faded:\n", 11, 272);
+    faded(rt, b"after the commit, its base faded:\n", 13, 4104);
+    faded(rt, b"after the collection, that base faded:\n", 15, 4104);
 }
 
 // Two groups on one page; and 16 entries in two groups.
-fn small_groups() {
+fn small_groups(rt: &(impl Print + Eprint)) {
     page_of(
+        rt,
         b"{5 to 1000}, {7 to 20, remove 5} flushed, serial 2:\n",
         &[
             FORMATTED, BUFFER, 1, 5, 1000, BUFFER, 2, 7, 32773, 20, 0, FLUSHED,
@@ -366,6 +380,7 @@ fn small_groups() {
         1,
     );
     page_of(
+        rt,
         b"16 entries in two groups:\n",
         &[
             FORMATTED,
@@ -382,14 +397,16 @@ fn small_groups() {
 }
 
 // A flush, and one whose program was cut: byte 16 of its page is left FFh.
-fn flushes() {
+fn flushes(rt: &(impl Print + Eprint)) {
     left(
+        rt,
         b"the first of these:\n",
         &[
             FORMATTED, BUFFER, 1, 5, 1000, BUFFER, 2, 7, 32773, 20, 0, FLUSHED,
         ],
     );
     left(
+        rt,
         b"its page torn:\n",
         &[
             FORMATTED, BUFFER, 1, 5, 1000, BUFFER, 2, 7, 32773, 20, 0, FLUSHED, BYTE, 272, 255,
@@ -398,18 +415,18 @@ fn flushes() {
 }
 
 // The word of a valve, in the write buffer or in the medium.
-fn word<'a>(m: &'a [u8], s: State, b: &'a [u8], valve: u16) {
-    part(b"valve ", valve as u64);
+fn word<'a>(rt: &(impl Print + Eprint), m: &'a [u8], s: State, b: &'a [u8], valve: u16) {
+    part(rt, b"valve ", valve as u64);
     let w = word::word(m, s, b, valve);
     if w.len() < 8 {
-        print::answer(b": ", word::word_refusal(m, s, b, valve));
+        print::answer(rt, b": ", word::word_refusal(m, s, b, valve));
         return;
     }
-    line(b": ", codec::le64(w, 0));
+    line(rt, b": ", codec::le64(w, 0));
 }
 
 // Valves 7, 8 and 9 on the medium; 5 and 7 set and 8 removed in the write buffer.
-fn words() {
+fn words(rt: &(impl Print + Eprint)) {
     let mut m = [255u8; 16384];
     let mut b = [255u8; 256];
     let t = trials::play_with(
@@ -419,36 +436,36 @@ fn words() {
             FORMATTED, SET, 2, 7, APPENDED, 1, 9, 90, BUFFER, 3, 5, 7, 32776, 1000, 20, 0,
         ],
     );
-    text(b"valves with a group buffered:\n");
-    word(&m, t.state, &b, 5);
-    word(&m, t.state, &b, 7);
-    word(&m, t.state, &b, 8);
-    word(&m, t.state, &b, 9);
+    text(rt, b"valves with a group buffered:\n");
+    word(rt, &m, t.state, &b, 5);
+    word(rt, &m, t.state, &b, 7);
+    word(rt, &m, t.state, &b, 8);
+    word(rt, &m, t.state, &b, 9);
 }
 
-fn main() {
-    base();
-    pages();
-    append_pages(24);
-    append_pages(25);
-    append_pages(96);
-    append_pages(97);
-    commit_pages(0, 0);
-    commit_pages(24, 0);
-    commit_pages(25, 0);
-    commit_pages(96, 96);
-    groups();
-    lengths();
-    cut();
-    next_append();
-    available();
-    filled();
-    recovered();
-    committed();
-    collected();
-    change_by_change();
-    fading();
-    small_groups();
-    flushes();
-    words();
+fn main(rt: HostRuntime) {
+    base(&rt);
+    pages(&rt);
+    append_pages(&rt, 24);
+    append_pages(&rt, 25);
+    append_pages(&rt, 96);
+    append_pages(&rt, 97);
+    commit_pages(&rt, 0, 0);
+    commit_pages(&rt, 24, 0);
+    commit_pages(&rt, 25, 0);
+    commit_pages(&rt, 96, 96);
+    groups(&rt);
+    lengths(&rt);
+    cut(&rt);
+    next_append(&rt);
+    available(&rt);
+    filled(&rt);
+    recovered(&rt);
+    committed(&rt);
+    collected(&rt);
+    change_by_change(&rt);
+    fading(&rt);
+    small_groups(&rt);
+    flushes(&rt);
+    words(&rt);
 }

@@ -3,14 +3,16 @@
 // that there are more. Where reading or writing fails that is told on standard error, and after a failed read nothing is printed.
 #![tactic(auto)]
 
-fn main() {
+use std::io;
+
+fn main(rt: HostRuntime) {
     let mut b = [0u8; 65537];
-    let r = streams::read(&mut b);
+    let r = streams::read(&mut rt.stdin(), &rt, &mut b);
     if r.failed {
         return;
     }
     let n = r.count;
     let mut out = [0u8; 524288];
     let k = listing::medium(&b[..n], &mut out);
-    streams::write(&out[..k]);
+    streams::write(&mut io::writer(&rt), &rt, &out[..k]);
 }

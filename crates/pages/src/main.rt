@@ -8,24 +8,25 @@ ghost use Rattle.std.specs.Prelude.{◌≡◌, ◌<◌, length};
 ghost use Rattle.text.specs.Parts.{PartAt, PrintsAll};
 ghost use Rattle.page_text.specs.PageText.{pages_text};
 
+use std::io;
 use text::Printed;
 
 // Bytes of the text of a medium on standard output, of which those before this place were written; whether they were written.
-fn write_part(m: &[u8], from: usize, part: &[u8]) -> bool
+fn write_part(rt: &(impl Print + Eprint), m: &[u8], from: usize, part: &[u8]) -> bool
     requires { PartAt (pages_text m.now) from part.now }
 {
-    streams::write(part)
+    streams::write(&mut io::writer(rt), rt, part)
 }
 
 // The text of a medium, as many bytes at a time as the lent list is long.
-fn print(m: &[u8], out: &mut [u8]) -> Printed
+fn print(rt: &(impl Print + Eprint), m: &[u8], out: &mut [u8]) -> Printed
     requires { 0 < length out.old }
     ensures { PrintsAll (pages_text m.now) result }
 {
     let mut from: usize = 0;
     loop {
         let k = page_text::window(m, from, out);
-        if !write_part(m, from, &out[..k]) {
+        if !write_part(rt, m, from, &out[..k]) {
             return Printed {
                 failed: true,
                 count: from,
@@ -55,13 +56,13 @@ fn text_room() -> [u8; 1048576]
     [0; 1048576]
 }
 
-fn main() {
+fn main(rt: HostRuntime) {
     let mut b = input_room();
-    let r = streams::read(&mut b);
+    let r = streams::read(&mut rt.stdin(), &rt, &mut b);
     if r.failed {
         return;
     }
     let n = r.count;
     let mut out = text_room();
-    print(&b[..n], &mut out);
+    print(&rt, &b[..n], &mut out);
 }

@@ -1,52 +1,54 @@
 // Lines on standard output, for the programs that run the papers' examples: text, numbers, answers of calls, and listings.
 #![tactic(auto)]
 
+use std::io;
+
 // Text as it is.
-pub fn text(s: &[u8]) {
-    streams::write(s);
+pub fn text(rt: &(impl Print + Eprint), s: &[u8]) {
+    streams::write(&mut io::writer(rt), rt, s);
 }
 
 // A number, decimal.
-pub fn number(n: u64) {
+pub fn number(rt: &(impl Print + Eprint), n: u64) {
     let mut out = [0u8; 20];
     let k = text::number(&mut out, 0, n);
-    text(&out[..k]);
+    text(rt, &out[..k]);
 }
 
 // A word of the output, then a number, at the end of a line.
-pub fn line(name: &[u8], n: u64) {
-    text(name);
-    number(n);
-    text(b"\n");
+pub fn line(rt: &(impl Print + Eprint), name: &[u8], n: u64) {
+    text(rt, name);
+    number(rt, n);
+    text(rt, b"\n");
 }
 
 // A refusal, as in a listing.
-pub fn refused(number: u8) {
+pub fn refused(rt: &(impl Print + Eprint), number: u8) {
     let mut out = [0u8; 32];
     let k = listing::refusal(&mut out, 0, number);
-    text(&out[..k]);
+    text(rt, &out[..k]);
 }
 
 // A call, and its answer: the number that it refused with, or 0.
-pub fn answer(call: &[u8], number: u8) {
-    text(call);
+pub fn answer(rt: &(impl Print + Eprint), call: &[u8], number: u8) {
+    text(rt, call);
     if number == 0 {
-        text(b"passed\n");
+        text(rt, b"passed\n");
         return;
     }
-    refused(number);
+    refused(rt, number);
 }
 
 // One change, as in a listing.
-pub fn change(group: u32, key: u16, word: u64) {
+pub fn change(rt: &(impl Print + Eprint), group: u32, key: u16, word: u64) {
     let mut out = [0u8; 64];
     let k = listing::change(&mut out, 0, group, key, word);
-    text(&out[..k]);
+    text(rt, &out[..k]);
 }
 
 // The listing of a medium.
-pub fn medium(m: &[u8]) {
+pub fn medium(rt: &(impl Print + Eprint), m: &[u8]) {
     let mut out = [0u8; 524288];
     let k = listing::medium(m, &mut out);
-    text(&out[..k]);
+    text(rt, &out[..k]);
 }

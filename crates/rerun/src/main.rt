@@ -8,25 +8,32 @@ ghost use Rattle.text.specs.Parts.{PartAt, PrintsAll};
 ghost use Rattle.page.specs.Buffer.{buffer_bytes};
 ghost use Rattle.run_text.specs.RunText.{run_text};
 
+use std::io;
 use text::Printed;
 
 // Bytes of the text of a trace on standard output, of which those before this place were written; whether they were written.
-fn write_part(t: &[u8], from: usize, part: &[u8]) -> bool
+fn write_part(rt: &(impl Print + Eprint), t: &[u8], from: usize, part: &[u8]) -> bool
     requires { PartAt (run_text t.now) from part.now }
 {
-    streams::write(part)
+    streams::write(&mut io::writer(rt), rt, part)
 }
 
 // The text of a trace, window after window: the trace is played from its start for each, on a medium and with a buffer that are lent for
 // that.
-fn print(t: &[u8], m: &mut [u8], b: &mut [u8], out: &mut [u8]) -> Printed
+fn print(
+    rt: &(impl Print + Eprint),
+    t: &[u8],
+    m: &mut [u8],
+    b: &mut [u8],
+    out: &mut [u8],
+) -> Printed
     requires { (length m.old ≡ 65536) × (length b.old ≡ buffer_bytes) × (0 < length out.old) }
     ensures { PrintsAll (run_text t.now) result }
 {
     let mut from: usize = 0;
     loop {
         let k = run_text::window(t, from, m, b, out);
-        if !write_part(t, from, &out[..k]) {
+        if !write_part(rt, t, from, &out[..k]) {
             return Printed {
                 failed: true,
                 count: from,
@@ -43,19 +50,19 @@ fn print(t: &[u8], m: &mut [u8], b: &mut [u8], out: &mut [u8]) -> Printed
 }
 
 // A trace.
-fn rerun(t: &[u8]) {
+fn rerun(rt: &(impl Print + Eprint), t: &[u8]) {
     let mut m = [0u8; 65536];
     let mut b = [0u8; 256];
     let mut out = [0u8; 524288];
-    print(t, &mut m, &mut b, &mut out);
+    print(rt, t, &mut m, &mut b, &mut out);
 }
 
-fn main() {
+fn main(rt: HostRuntime) {
     let mut t = [0u8; 65537];
-    let r = streams::read(&mut t);
+    let r = streams::read(&mut rt.stdin(), &rt, &mut t);
     if r.failed {
         return;
     }
     let n = r.count;
-    rerun(&t[..n]);
+    rerun(&rt, &t[..n]);
 }

@@ -11,7 +11,6 @@ use lib.ListN.{length, take, drop}
 use lib.Seq.{length-take-le, take_all}
 use Rattle.lists.proofs.Laws.{true_false}
 use Rattle.text.specs.declared.WindowState.{WindowState}
-use Rattle.text.specs.declared.Printed.{Printed}
 use Rattle.text.specs.Text.{Holds}
 use Rattle.text.specs.Window.{window, window_from, Shows}
 use Rattle.text.specs.Parts.{most_printed, Sees, PartAt, PrintsAll}

@@ -1,9 +1,8 @@
 use Rattle.streams.proofs.Laws.{after_failed, after_more}
-use borrow.Author.Rules.{rules}
 use Rattle.streams.proofs.after_read.Goals as goal
 
-pub returns-then-answer-lt0 : goal.returns-then-answer-lt0
-returns-then-answer-lt0 c = search (after_failed, rules)
+pub returns-then-is_err : goal.returns-then-is_err
+returns-then-is_err c = after_failed _ _ _ c.if-is_err.ensures.value
 
 pub returns : goal.returns
-returns c = search (after_more, rules)
+returns c = after_more _ _ _ _ c.if-is_err.ensures.value c.moved-more.ensures

@@ -1,22 +1,29 @@
-use native.Mathlib.Omega.{arith}
-use Prim.Native.Nat.{◌-◌, ◌≤◌}
-use mathlib.Core.Path.{◌≡◌}
-use lib.ListN.{length}
-use Rattle.streams.proofs.Laws.{got_after, got_so_far, farther, no_farther}
-use borrow.Author.Rules.{rules}
+use Rattle.std.proofs.Common.{rules, arith}
+use Rattle.streams.proofs.Laws.{got_after, farther, no_farther, took_after, took_more, not_failed}
 use Rattle.streams.proofs.read.Goals as goal
 
-pub loop-done-init : goal.loop-done-init
-loop-done-init c = (search rules, search rules)
+pub returns-then-r-clause-got : goal.returns-then-r-clause-got
+returns-then-r-clause-got g c = search (got_after, rules)
 
-pub returns-then-r : goal.returns-then-r
-returns-then-r c = search (got_after, rules)
+pub returns-then-r-clause-took : goal.returns-then-r-clause-took
+returns-then-r-clause-took g c =
+    let s = c.read_some-answer.ensures in
+    took_after _ _ _ _ _ _ s.front c.loop-done.invariant.bytes _ _ c.after_read-r.ensures s.bound s.bytes (omega arith) c.if-r.true _
+    c.told.ensures
 
 pub loop-done-smaller : goal.loop-done-smaller
-loop-done-smaller c = omega (arith, farther _ _ _ c.after_read-r.result c.after_read-r.ensures (search rules) c.if-r.false)
+loop-done-smaller g c =
+    let r = c.after_read-r in
+    omega (arith, farther _ _ _ r.result r.ensures (omega arith) c.if-r.false)
 
 pub loop-done-preserved : goal.loop-done-preserved
-loop-done-preserved c = (no_farther _ _ _ c.after_read-r.result c.after_read-r.ensures (search rules), search rules)
-
-pub returns : goal.returns
-returns c = search (got_so_far, rules)
+loop-done-preserved g c =
+    let r = c.after_read-r in
+    let s = c.read_some-answer.ensures in
+    let p = c.loop-done.invariant.bytes in
+    record {
+      within = no_farther _ _ _ r.result r.ensures (omega arith);
+      bytes =
+          took_more _ _ _ _ _ _ s.front p _ r.result r.ensures s.bound s.bytes
+          (not_failed _ _ _ _ _ _ s.front p _ r.result r.ensures s.bound s.bytes c.if-r.false);
+    }

@@ -1,10 +1,9 @@
-use mathlib.Core.Path.{◌≡◌}
-use lib.ListN.{length}
-use borrow.Author.Rules.{rules}
+use Rattle.std.proofs.Common.{◌≡◌, take}
+use Rattle.std.specs.Io.KnownBytes.{Keeps}
 use Rattle.streams.proofs.read_some.Given as goal
 
 abbrev pub invariant-loop-left : goal.invariant-loop-left
-invariant-loop-left l = length l.buf ≡ length l.initial.buf
+invariant-loop-left g l = Keeps (g.R.Read.remaining l.initial.input) (g.R.Read.remaining l.input) × (take l.at l.buf ≡ take l.at l.initial.buf)
 
 abbrev pub decreases-loop-left : goal.decreases-loop-left
-decreases-loop-left l = l.left
+decreases-loop-left g l = l.left

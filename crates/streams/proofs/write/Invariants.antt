@@ -1,10 +1,13 @@
-use Prim.Native.Nat.{◌-◌, ◌≤◌}
-use lib.ListN.{length}
-use borrow.Author.Rules.{rules}
+use Rattle.std.proofs.Common.{length, take, ◌-◌, ◌≤◌}
+use Rattle.std.specs.Io.KnownBytes.{Appends}
 use Rattle.streams.proofs.write.Given as goal
 
 abbrev pub invariant-loop-done : goal.invariant-loop-done
-invariant-loop-done l = l.done ≤ length l.text
+invariant-loop-done g l =
+    record {
+      within : l.done ≤ length l.text;
+      bytes : Appends (g.W.Write.contents l.initial.output) (g.W.Write.contents l.output) (take l.done l.text);
+    }
 
 abbrev pub decreases-loop-done : goal.decreases-loop-done
-decreases-loop-done l = length l.text - l.done
+decreases-loop-done g l = length l.initial.text - l.done

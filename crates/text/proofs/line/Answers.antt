@@ -1,6 +1,6 @@
+use Rattle.std.proofs.Common.{rules}
 use Rattle.text.specs.Text.{ascii}
 use Rattle.text.proofs.Laws.{puts_then}
-use borrow.Author.Rules.{rules}
 use Rattle.text.proofs.line.Goals as goal
 
 pub returns : goal.returns

@@ -1,7 +1,8 @@
-use native.Mathlib.Omega.{arith}
+use Rattle.std.proofs.Common.{arith}
 use Rattle.text.proofs.Laws.{puts_number}
-use borrow.Author.Rules.{rules}
 use Rattle.text.proofs.number.Goals as goal
 
 pub returns : goal.returns
-returns c = puts_number _ (omega arith) c.decimal-k.ensures.1.0 c.decimal-k.ensures.1.1 c.put.ensures
+returns c =
+    let e = c.decimal-k.ensures in
+    puts_number _ (omega arith) e.len e.digits c.put.ensures

@@ -1,6 +1,5 @@
-use Prim.Native.Nat.{◌-◌}
-use Rattle.text.proofs.Laws.{Copied, copy_end, copy_in, copy_next, copy_none, copy_room, copy_start}
-use borrow.Author.Rules.{rules}
+use Rattle.std.proofs.Common.{◌-◌}
+use Rattle.text.proofs.Laws.{Copied}
 use Rattle.text.proofs.put.Given as goal
 
 abbrev pub invariant-loop-i : goal.invariant-loop-i

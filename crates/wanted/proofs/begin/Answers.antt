@@ -11,8 +11,8 @@ returns-then-other-ne0 c = search (begin_records, told_of, rules)
 
 pub from_index-requires : goal.from_index-requires
 from_index-requires c =
-    let e = told_of _ c.args.t2 _ c.parts_refusal-number.ensures in
-    (state_few c.args.m.now c.args.t2 _ e c.if-number-ne0.false, state_rises c.args.m.now c.args.t2 _ e c.if-number-ne0.false, state_valves c.args.m.now c.args.t2 c.args.n _ e c.if-number-ne0.false)
+    let e = told_of _ c.args.s _ c.parts_refusal-number.ensures in
+    (state_few c.args.m.now c.args.s _ e c.if-number-ne0.false, state_rises c.args.m.now c.args.s _ e c.if-number-ne0.false, state_valves c.args.m.now c.args.s c.args.n _ e c.if-number-ne0.false)
 
 pub returns : goal.returns
 returns c = search (begin_index, told_of, rules)

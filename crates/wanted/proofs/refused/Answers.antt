@@ -1,5 +1,4 @@
 use Rattle.wanted.proofs.Laws.{refused_is}
-use borrow.Author.Rules.{rules}
 use Rattle.wanted.proofs.refused.Goals as goal
 
 pub returns : goal.returns
