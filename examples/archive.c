@@ -14,7 +14,7 @@
  * Exit status: 0 done. 1 somebody should look: the medium is refused or not the one that was filed, and nothing was filed or
  * committed; or its log is filed and the commit refused. 2 a file, the chip or a standard stream failed: run it again.
  *
- *   rt staticlib journal_c
+ *   tools/build journal_archive
  *   cc -std=c99 -Wall -Wextra -I include examples/archive.c target/staticlib/libjournal_c.a -o target/archive_c
  */
 #define _XOPEN_SOURCE 700

@@ -1,7 +1,7 @@
 // The archive's morning, as `examples/archive.c` has it: the same arguments, files, exit statuses and rules. The two may take turns in
 // one folder.
 //
-//   rt staticlib journal_c
+//   tools/build journal_archive
 //   rustc --edition 2021 -O -L target/staticlib examples/archive.rs -o target/archive_rs
 #[allow(dead_code)]
 #[path = "../include/valve_journal.rs"]

@@ -1,7 +1,7 @@
 /* Formats a chip of 4 blocks; then gathers an operator's single moves, each a group of its own, in the write buffer, and flushes it where it is full
  * and at the end: 20 moves take 2 pages. Looks at valves before and after the last flush. The driver prints each step.
  *
- *   rt staticlib journal_c
+ *   tools/build journal_archive
  *   cc -std=c99 -Wall -Wextra -I include examples/buffer.c target/staticlib/libjournal_c.a -o target/buffer_c
  */
 #include <inttypes.h>

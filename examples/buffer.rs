@@ -1,7 +1,7 @@
 // Formats a medium of 4 blocks; then gathers an operator's single moves, each a group of its own, in the write buffer, and flushes it where it
 // is full and at the end: 20 moves take 2 pages. Looks at valves before and after the last flush. Prints what each step touched.
 //
-//   rt staticlib journal_c
+//   tools/build journal_archive
 //   rustc --edition 2021 -O -L target/staticlib examples/buffer.rs -o target/buffer_rs
 #[allow(dead_code)]
 #[path = "../include/valve_journal.rs"]

@@ -2,7 +2,7 @@
  * then no longer open: the next append is turned away. It is opened again, which reads the chip; the group has counted whole or not at all, so
  * the log is asked before the group is appended once more.
  *
- *   rt staticlib journal_c
+ *   tools/build journal_archive
  *   cc -std=c99 -Wall -Wextra -I include examples/failure.c target/staticlib/libjournal_c.a -o target/failure_c
  */
 #include "chip.h"

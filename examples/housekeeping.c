@@ -2,7 +2,7 @@
  * a call that first makes the room that is missing. Where there is none without emptying the log, the log is filed, and the group is offered
  * again. At the end every change was filed once, and each valve opens as it was set last.
  *
- *   rt staticlib journal_c
+ *   tools/build journal_archive
  *   cc -std=c99 -Wall -Wextra -I include examples/housekeeping.c target/staticlib/libjournal_c.a -o target/housekeeping_c
  */
 #include "chip.h"

@@ -2,7 +2,7 @@
  * reads the log and the settings, which an archive files now, commits, and collects the block that the picker names.
  * The driver prints each step.
  *
- *   rt staticlib journal_c
+ *   tools/build journal_archive
  *   cc -std=c99 -Wall -Wextra -I include examples/journal.c target/staticlib/libjournal_c.a -o target/journal_c
  */
 #include <inttypes.h>

@@ -2,7 +2,7 @@
 // reads the log and the settings, which an archive files now, commits, and collects the block that the picker names.
 // Prints what each step touched.
 //
-//   rt staticlib journal_c
+//   tools/build journal_archive
 //   rustc --edition 2021 -O -L target/staticlib examples/journal.rs -o target/journal_rs
 #[allow(dead_code)]
 #[path = "../include/valve_journal.rs"]

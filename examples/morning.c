@@ -4,7 +4,7 @@
  * Exit status: 0 all is printed, a refusal too. 2 standard input or output failed, which is told on standard error; after a failed
  * read nothing is printed.
  *
- *   rt staticlib journal_c
+ *   tools/build journal_archive
  *   cc -std=c99 -Wall -Wextra -I include examples/morning.c target/staticlib/libjournal_c.a -o target/morning_c
  */
 #include <errno.h>

@@ -4,7 +4,7 @@
 // Exit status: 0 all is printed, a refusal too. 2 standard input or output failed, which is told on standard error; after a failed
 // read nothing is printed.
 //
-//   rt staticlib journal_c
+//   tools/build journal_archive
 //   rustc --edition 2021 -O -L target/staticlib examples/reader.rs -o target/reader_rs
 #[allow(dead_code)]
 #[path = "../include/valve_journal.rs"]

@@ -1,7 +1,7 @@
 /* A grade change. On a chip of 4 blocks where {5 -> 1000, 7 -> 20, 9 -> 300} was appended, a control room opens the journal, asks for the group
  * that leads to the wanted openings {5 -> 1000, 8 -> 50, 9 -> 350}, and appends it. Asked again, nothing differs. The driver prints each step.
  *
- *   rt staticlib journal_c
+ *   tools/build journal_archive
  *   cc -std=c99 -Wall -Wextra -I include examples/wanted.c target/staticlib/libjournal_c.a -o target/wanted_c
  */
 #include <inttypes.h>

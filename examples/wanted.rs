@@ -2,7 +2,7 @@
 // group that leads to the wanted openings {5 -> 1000, 8 -> 50, 9 -> 350}, and appends it. Asked again, nothing differs. Prints what each step
 // touched.
 //
-//   rt staticlib journal_c
+//   tools/build journal_archive
 //   rustc --edition 2021 -O -L target/staticlib examples/wanted.rs -o target/wanted_rs
 #[allow(dead_code)]
 #[path = "../include/valve_journal.rs"]

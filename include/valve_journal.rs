@@ -6,7 +6,7 @@
 //! mod valve_journal;
 //! ```
 //!
-//! Link with `target/staticlib/libjournal_c.a`, which `rt staticlib journal_c` writes for x86-64: `rustc -L target/staticlib`.
+//! Link with `target/staticlib/libjournal_c.a`, which `tools/build journal_archive` writes for x86-64: `rustc -L target/staticlib`.
 //!
 //! Names: a call `vj_x` is `x` here, a constant `VJ_X` is `X`, a struct `VjX` that a caller keeps or fills in is `X`. A lent list is a slice. A
 //! refusal is the `Err` of a `Result`. A call that takes a state and hands one back puts it in the place of the one given; on a refusal it is the

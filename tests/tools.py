@@ -15,33 +15,60 @@ import exports
 import gate
 import stack
 
-LOG = """rt: lists proved (2 s)
-library lists: modules loaded=20 checked=0
-rt: page proved (unchanged since it was last proved)
-rt: flash NOT PROVED (exit 1, 8 s)
-rt: must-fail lists/first_left_out: refused, as it must be (first at proofs/first/Proof.antt:3:1; 3 s)
-rt: must-fail lists/last_left_out: refused, as it must be (5 s)
-rt: must-fail flash/page_elsewhere: NOT REFUSED: the crate is still proved with this edit (12 s)
-rt: must-fail flash/no_such_text: BAD EDIT: an 'old:' text is not in src/lib.rt
-rt: morning ran as nobody, and wrote what its file 'stdout' has (1 s)
-5 passed, 2 failed
+LOG = """== lists
+fn lists::every: proved
+logic=proved functions=7 sum=097e native=nat,char,string logic-built=trusted
+rt: lists proved
+== lists: its tests
+logic=proved tests=1 functions=9 sum=097e native=nat,char,string logic-built=trusted
+rt: lists: its tests proved
+rt: bits is kept: an earlier run on this machine proved the same files over the same libraries
+rt: lists: trying its must-fail edits (3)
+rt: must-fail lists/first_left_out.edit: refused, as it must be: ./src/lib.rt:3:1: error: `returns`: `search`: no proof of `x ≡ y`
+rt: must-fail lists/last_left_out.edit: refused, as it must be (only by a limit of the prover, which gave no verdict, so this says less): a
+rt: must-fail lists/none_left_out.edit: refused, as it must be (only because a proof file names what the edit took away, so this says little): a
+rt: morning ran, and wrote what its file stdout has
+rt: morning ran (built by Rattle's own compiler), and wrote what its file stdout has
+rt: ok; handles allowed: none; must-fail edits: 3 refused, 1 of them only by a limit; every proof and must-fail edit was done in this run
+5 passed, 0 failed
 """
-LIBRARY = """// Readings.
-#[no_mangle]
+# The same with an edit that is bad, and one that is still proved.
+BAD = LOG.replace("lists/first_left_out.edit: refused, as it must be: ./src", "lists/first_left_out.edit: BAD EDIT: an 'old:' text is not in src") \
+    .replace("must-fail edits: 3 refused, 1 of them only by a limit;", "must-fail edits: 2 refused, 1 of them only by a limit, 1 bad;")
+MISSED = LOG.replace("lists/first_left_out.edit: refused, as it must be: ./src", "lists/first_left_out.edit: NOT REFUSED: the crate is still proved") \
+    .replace("rt: ok; ", "rt: FAILED: lists/first_left_out.edit ").replace("5 passed, 0 failed", "4 passed, 1 failed")
+ARCHIVE = """// Readings.
+#[unsafe(no_mangle)]
 pub extern "C" fn vj_first<'a>(m: &[u8], list: &'a mut [u16]) -> u8
-    ensures { λ r. ⌜ r ≡ first (now (m .entry)) ⌝ }
+    ensures { result ≡ first m.now list.old }
 {
-    { 1 }
+    below::vj_first(m, list)
 }
 
-#[no_mangle]
+#[unsafe(no_mangle)]
 pub extern "C" fn vj_second(
     m: &[u8], // requires no length
     p: (u8, u8),
 ) -> u8
-    ensures { λ r. ⌜ r ≡ 2 ⌝ }
+    ensures { result ≡ 2 }
 {
-    2
+    below::vj_second(m, p)
+}
+"""
+BELOW = """#[unsafe(no_mangle)]
+pub extern "C" fn vj_first<'a>(m: &[u8], list: &'a mut [u16]) -> u8
+    ensures { result ≡ first m.now list.old }
+{
+    { 1 }
+}
+
+pub fn vj_second(
+    m: &[u8],
+    p: (u8, u8), // of a page
+) -> u8
+    ensures { result ≡ 2 }
+{
+    if m.len() == 0 { 2 } else { 1 + 1 }
 }
 """
 HEADER = "uint8_t vj_first(const uint8_t *m);\nuint8_t vj_second(const uint8_t *m);\nstatic inline void vj_run(void)\n"
@@ -72,29 +99,40 @@ def files(texts):
 
 
 class Gate(unittest.TestCase):
-    def test_seconds_are_read(self):
-        checks, tried = gate.read_log(LOG.split("\n"))
-        self.assertEqual(checks, {"lists": 2, "flash": 8})
-        self.assertEqual(tried, {("lists", "first_left_out"): 3, ("lists", "last_left_out"): 5, ("flash", "page_elsewhere"): 12})
-
-    def test_dearest_first(self):
-        self.assertEqual(gate.by_crate(*gate.read_log(LOG.split("\n"))), [("flash", 1, 8, 12), ("lists", 2, 2, 8)])
+    def run_on(self, text):
+        """What the tool prints of a log, and its exit status."""
+        out = io.StringIO()
+        with files({"log": text, "times": "0m1.000s 0m2.000s\n5m0.500s 1m1.000s\n"}) as folder, contextlib.redirect_stdout(out):
+            with contextlib.redirect_stderr(out):
+                status = gate.main([os.path.join(folder, "log"), "--times", os.path.join(folder, "times")])
+        return out.getvalue().split("\n")[:-1], status
 
     def test_core_minutes_are_those_of_the_children(self):
         self.assertEqual(gate.core_seconds("0m1.000s 0m2.000s\n5m0.500s 1m1.000s\n"), 361.5)
 
-    def test_table(self):
-        lines = gate.table(*gate.read_log(LOG.split("\n")), 360, 1, 2)
-        self.assertEqual(lines[0], "gate: 2 checks, 3 edits, 30 s, of checks that ran beside each other; "
-                                   "6.0 core minutes in all, shared out by these seconds")
-        self.assertEqual(lines[2].split(), ["flash", "8", "1", "12", "20", "66.7", "%", "4.00"])
-        self.assertEqual(lines[3].split(), ["1", "more", "2", "2", "8", "10", "33.3", "%", "2.00"])
-        self.assertEqual(lines[5].split(), ["flash/page_elsewhere", "12", "40.0", "%", "2.40"])
-        self.assertEqual(len(lines), 7)
+    def test_what_is_told(self):
+        lines, status = self.run_on(LOG)
+        self.assertEqual(lines, ["lists/last_left_out: refused by a limit", "lists/none_left_out: refused by a name",
+                                 "gate: 2 crates, 1 proved in this run, with 7 functions, and 1 in an earlier one of the same files; "
+                                 "3 of 3 edits refused, 0 bad; 6.0 core minutes"])
+        self.assertEqual(status, 0)
 
-    def test_a_log_without_a_check(self):
-        with files({"log": "nothing\n"}) as folder, contextlib.redirect_stdout(io.StringIO()):
-            self.assertEqual(gate.main([os.path.join(folder, "log")]), 1)
+    def test_a_bad_edit(self):
+        lines, status = self.run_on(BAD)
+        self.assertEqual((lines[0], lines[-1], status), ("lists/first_left_out: BAD EDIT", "gate: NOT PASSED", 1))
+
+    def test_a_bad_edit_by_the_last_lines_alone(self):
+        lines, status = self.run_on(LOG.replace("only by a limit;", "only by a limit, 12 bad;"))
+        self.assertIn("3 of 3 edits refused, 12 bad", lines[-2])
+        self.assertEqual(status, 1)
+
+    def test_an_edit_that_is_proved(self):
+        lines, status = self.run_on(MISSED)
+        self.assertEqual((lines[0], lines[-1], status), ("lists/first_left_out: NOT REFUSED", "gate: NOT PASSED", 1))
+
+    def test_a_run_that_did_not_end_well(self):
+        for text in ["nothing\n", LOG.replace("rt: ok;", "rt: "), LOG.replace("0 failed", "1 failed"), LOG + "rt: killed\n"]:
+            self.assertEqual(self.run_on(text)[1], 1)
 
 
 class Stack(unittest.TestCase):
@@ -115,8 +153,9 @@ class Stack(unittest.TestCase):
 
 
 class Exports(unittest.TestCase):
-    def faults(self, library=LIBRARY, header=HEADER, rust=RUST, lent=None):
-        texts = {"crates/a/src/lib.rt": library, "include/valve_journal.h": header, "include/valve_journal.rs": rust}
+    def faults(self, archive=ARCHIVE, below=BELOW, header=HEADER, rust=RUST, lent=None):
+        texts = {"crates.txt": "below:\narchive staticlib: below\n", "crates/archive/src/lib.rt": archive, "crates/below/src/lib.rt": below,
+                 "include/valve_journal.h": header, "include/valve_journal.rs": rust}
         with files(texts) as folder:
             return exports.check(folder, {"vj_first": ["list"]} if lent is None else lent)[1]
 
@@ -125,6 +164,12 @@ class Exports(unittest.TestCase):
         self.assertEqual(len(faults), 1, faults)
         self.assertIn(words, faults[0])
 
+    def both(self, words, old, new):
+        """The same change of both crates."""
+        self.assertIn(old, ARCHIVE)
+        self.assertIn(old, BELOW)
+        self.one(words, archive=ARCHIVE.replace(old, new), below=BELOW.replace(old, new))
+
     def test_as_it_should_be(self):
         self.assertEqual(self.faults(), [])
 
@@ -132,17 +177,21 @@ class Exports(unittest.TestCase):
         self.assertEqual(exports.check(ROOT, exports.LENT)[1], [])
 
     def test_requires(self):
-        self.one("vj_second has a `requires`", library=LIBRARY.replace(
-            "    ensures { λ r. ⌜ r ≡ 2 ⌝ }", "    requires { ⌜ length (now m) ≡ 0 ⌝ }\n    ensures { λ r. ⌜ r ≡ 2 ⌝ }"))
+        self.both("vj_second has a `requires`", "    ensures { result ≡ 2 }",
+                  "    requires { length m.now ≡ 0 }\n    ensures { result ≡ 2 }")
+
+    def test_a_named_requires(self):
+        self.both("vj_second has a `requires`", "    ensures { result ≡ 2 }",
+                  "    requires empty { length m.now ≡ 0 }\n    ensures two { result ≡ 2 }")
 
     def test_no_promise(self):
-        self.one("vj_second has no `ensures`", library=LIBRARY.replace("    ensures { λ r. ⌜ r ≡ 2 ⌝ }\n", ""))
+        self.both("vj_second has no `ensures`", "    ensures { result ≡ 2 }\n", "")
 
     def test_a_reading_that_may_write(self):
-        self.one("vj_second takes `m` by `&mut`", library=LIBRARY.replace("    m: &[u8],", "    m: &mut [u8],"))
+        self.both("vj_second takes `m` by `&mut`", "    m: &[u8],", "    m: &mut [u8],")
 
     def test_lent_for_nothing(self):
-        self.one("vj_first no longer takes `list`", library=LIBRARY.replace("&'a mut", "&'a"))
+        self.both("vj_first no longer takes `list`", "&'a mut", "&'a")
 
     def test_a_list_entry_that_is_no_export(self):
         self.one("vj_third is no export", lent={"vj_first": ["list"], "vj_third": ["m"]})
@@ -154,7 +203,22 @@ class Exports(unittest.TestCase):
         self.one("valve_journal.rs declares vj_third", rust=RUST.replace("}", "    fn vj_third(m: *const u8) -> u8;\n}"))
 
     def test_an_unmarked_function(self):
-        self.one("without #[no_mangle]", library=LIBRARY + 'pub extern "C" fn vj_third() -> u8 {\n    3\n}\n')
+        self.one("without #[unsafe(no_mangle)]", archive=ARCHIVE + 'pub extern "C" fn vj_third() -> u8 {\n    3\n}\n')
+
+    def test_another_promise_than_below(self):
+        self.one("vj_second has not the parameters and the promise of below::vj_second", below=BELOW.replace("result ≡ 2", "result ≡ 1"))
+
+    def test_other_parameters_than_below(self):
+        self.one("vj_second has not the parameters and the promise of below::vj_second", below=BELOW.replace("(u8, u8)", "(u8, u16)"))
+
+    def test_another_function_called(self):
+        self.one("vj_second does something else", archive=ARCHIVE.replace("below::vj_second(m, p)", "below::vj_first(m, p)"))
+
+    def test_something_done_besides(self):
+        self.one("vj_second does something else", archive=ARCHIVE.replace("below::vj_second(m, p)", "below::vj_second(m, p) + 0"))
+
+    def test_other_parameters_handed_on(self):
+        self.one("vj_second hands on something else", archive=ARCHIVE.replace("below::vj_second(m, p)", "below::vj_second(p, m)"))
 
 
 class Edits(unittest.TestCase):
@@ -176,26 +240,24 @@ class Edits(unittest.TestCase):
                 os.chdir(before)
         self.assertEqual(count, 3)
         self.assertEqual(faults, ["docs/READING.md:8: there is no crates/page/must-fail/wrong_check.edit",
-                                  "crates/page/must-fail/not_named.edit: docs/READING.md does not name it",
                                   "crates/flash/must-fail/wrong_page.edit: its old text stands 0 times in crates/flash/src/lib.rt"])
 
     def test_first_errors(self):
-        place = "target/must-fail/page/%s/proofs/f/Proof.antt:3:1: error: "
-        texts = {"page/fact/.log": "library page\n" + place % "fact" + "`returns`: `search`: no proof of `x ≡ y`\n"
-                 + place % "fact" + "`f`: module `T` has no `Need-a` that can be named from here\n",
-                 "page/need/.log": place % "need" + "`f`: module `T` has no `Need-a` that can be named from here\n",
-                 "page/said/.log": "note: proofs/Laws.antt:1:1: `a` is not in scope\n",
-                 "page/step/.log": "note: what antt said of a `search` in the proof that rattle made: src/lib.rt:3:1: `slice-aggregate-step-2`: no\n",
-                 "page/told/.log": "note: src/lib.rt:3:1: it is not proved that what the function ensures holds when it returns (`returns`)\n",
-                 "page/made/.log": "specs/Table.antt:8:5: error: `agree`: this `on` lands at index `93 ∷ []`\n",
-                 "page/spec/.log": "specs/Table.antt:3:5: error: `f`: expected type `ℕ`, but this has type `Bool`\n",
-                 "page/none/.log": "logic=not-proved\n"}
-        with files(texts) as folder:
-            count, faults = edits.check_errors(folder)
-        self.assertEqual(count, 8)
+        place = "./proofs/f/Answers.antt:3:1: error: "
+        said = {"fact": ": " + place + "`returns`: `search`: no proof of `x ≡ y`", "shut": " (only by a limit of the prover, which gave no verdict): a",
+                "need": " (only because a proof file names what the edit took away): " + place + "no field", "kept": ": ",
+                "said": ": note: ./proofs/Laws.antt:1:1: `a` is not in scope", "spec": ": ./specs/Table.antt:3:5: error: `f`: expected type `ℕ`",
+                "told": ": note: src/lib.rt:3:1: it is not proved that what the function ensures holds when it returns (`returns`)",
+                "made": ": ./specs/Table.antt:8:5: error: `agree`: this `on` lands at index `93 ∷ []`"}
+        lines = [f"rt: must-fail page/{label}.edit: refused, as it must be{text}" for label, text in said.items()]
+        lines += ["rt: must-fail page/gone.edit: BAD EDIT: an 'old:' text is not in src/lib.rt", "rt: page proved",
+                  "rt: must-fail page/same.edit: NOT REFUSED: the crate is still proved with this edit"]
+        count, faults = edits.check_errors(lines)
+        self.assertEqual(count, 10)
         self.assertEqual([f.split(": ")[:2] for f in faults],
-                         [["page/need", "a need that is gone"], ["page/none", "no error at all"], ["page/said", "a name that is not there"],
-                          ["page/spec", "a definition that is none"], ["page/step", "a step that the prover did not find by itself"]])
+                         [["page/gone", "BAD EDIT"], ["page/kept", "no error at all"], ["page/need", "only a name that the edit took away"],
+                          ["page/said", "a name that is not there"], ["page/same", "NOT REFUSED"], ["page/shut", "only a limit of the prover"],
+                          ["page/spec", "a definition that is none"]])
 
 
 if __name__ == "__main__":

@@ -5,10 +5,11 @@
                           "What is ruled out" names is there
   tools/edits.py list [CRATE ..]
                           prints each edit, of all crates or of those named: its label in words, its file, and what it changes
-  tools/edits.py errors   after `rt ci` or `rt must-fail`: prints the edits whose first error speaks of the shape of a proof
-                          (a need that is gone, a name that is not there, a text that does not parse) and not of a fact that no
-                          longer holds, or says something that is not known here. Their logs stand in target/must-fail; another
-                          folder may be given
+  tools/edits.py errors [LOG]
+                          after `.ci/run`: prints the edits that were not refused, and those whose first error speaks of the shape
+                          of a proof (a name that is gone or not there, an import that is not used) and not of a fact that no longer
+                          holds, or says something that is not known here. LOG is what `rt ci` or `rt must-fail` printed, without
+                          one target/gate.log
 
 Run it from the repository's root. Exit status: 0 nothing to say, 1 something is wrong, 2 bad usage."""
 import glob
@@ -22,18 +23,19 @@ HEADING = "## What is ruled out"
 TOKEN = re.compile(r"`(\w+)`|`[^`]*`|(?<!\w)(\w*_\w*)(?!\w)")
 # What a first error says where a fact no longer holds.
 FACTS = re.compile(r"no proof of|the two types|expected type|does not follow|it is not proved that|give a proof of that"
-                   r"|list the missing equation|lands at index|the two sides differ|does not hold")
+                   r"|list the missing equation|lands at index|the two sides differ|does not hold|is not proved")
 # What it says where an edit changed the shape of a proof, each with the words for it. The others are read by a person.
 SHAPES = [
-    ("a need that is gone", re.compile(r"no `Need-")),
-    ("a name that is not there", re.compile(r"can be named from here|not in scope|has no field")),
+    ("only a name that the edit took away", re.compile(r"^\(only because a proof file names")),
+    ("only a limit of the prover", re.compile(r"^\(only by a limit")),
+    ("a name that is not there", re.compile(r"can be named from here|not in scope|has no field|has no `|exports no `")),
     ("a line that is not used", re.compile(r"\bunused\b")),
-    ("only what an earlier error holds back", re.compile(r"was not admitted|admitted by the kernel")),
-    ("a step that the prover did not find by itself", re.compile(r"^`(slice-)?aggregate-step")),
+    ("only what an earlier error holds back", re.compile(r"was not admitted|was not checked|admitted by the kernel")),
     ("a rewriting that finds nothing", re.compile(r"`rw`: no occurrence")),
 ]
-ERROR = re.compile(r"^(\S*): error(?:\[[^\]]*\])?: (.*)$")
-NOTE = re.compile(r"^note: (?:what antt said of [^:]*: )?(\S*:\d+:\d+): (.*)$")
+# A line for an edit: what became of it, and its first error, cut off, where it was refused.
+TRIED = re.compile(r"^rt: must-fail (\w+)/([\w.-]+)\.edit: (refused, as it must be|[A-Z]+ [A-Z]+):? ?(.*)$")
+ERROR = re.compile(r"^(?:note: )?(?:what antt said of [^:]*: )?(\S*:\d+:\d+): (?:error(?:\[[^\]]*\])?: )?(.*)$")
 
 
 def pairs_of(edit):
@@ -104,20 +106,10 @@ def check_names(reading):
     return len(there), wrong
 
 
-def first_error(log):
-    """The first error of a log, or its first note with a place where it has no error, and where it stands."""
-    lines = Path(log).read_text(encoding="utf8", errors="replace").split("\n")
-    for form in (ERROR, NOTE):
-        for line in lines:
-            found = form.match(line)
-            if found:
-                return found.group(1), found.group(2)
-    return "", "the log has no error"
-
-
-def shape_of(place, message):
+def shape_of(said):
     """The words for a first error that is no fact, or none."""
-    if not place:
+    place, message = (ERROR.match(said) or re.match("()(.*)", said)).groups()
+    if not message:
         return "no error at all"
     if re.search(r"(^|/)specs/", place) and "lands at index" not in message:  # that is a computed example, which may stand there
         return "a definition that is none"
@@ -125,16 +117,14 @@ def shape_of(place, message):
     return words or (None if FACTS.search(message) else "not known to be a fact")
 
 
-def check_errors(folder):
-    """What is wrong with the first errors of the logs under a folder, and how many there are."""
-    logs, wrong = sorted(glob.glob(f"{folder}/*/*/.log")), []
-    for log in logs:
-        crate, label = log.split("/")[-3:-1]
-        place, message = first_error(log)
-        words = shape_of(place, message)
+def check_errors(lines):
+    """What is wrong with the edits of a log, and how many there are."""
+    tried, wrong = [it for it in (TRIED.match(line.rstrip()) for line in lines) if it], []
+    for crate, label, verdict, said in (it.groups() for it in tried):
+        words = shape_of(said) if verdict.startswith("refused") else verdict
         if words:
-            wrong.append(f"{crate}/{label}: {words}: {place.split(f'/{label}/')[-1]}: {message[:240]}")
-    return len(logs), wrong
+            wrong.append(f"{crate}/{label}: {words}: {said[:240]}")
+    return len(tried), sorted(wrong)
 
 
 def main(words):
@@ -142,12 +132,12 @@ def main(words):
         print(__doc__)
         return 0
     if words[:1] == ["errors"] and len(words) <= 2:
-        folder = words[1] if len(words) == 2 else "target/must-fail"
-        count, wrong = check_errors(folder)
+        log = Path(words[1] if len(words) == 2 else "target/gate.log")
+        count, wrong = check_errors(log.read_text(encoding="utf8", errors="replace").split("\n") if log.is_file() else [])
         if not count:
-            print(f"edits: no log under {folder}; `rt must-fail` or `rt ci` writes them")
+            print(f"edits: no edit was tried in {log}; `.ci/run` writes target/gate.log, and `rt must-fail` prints such a log")
             return 2
-        print("\n".join(wrong + [f"edits: {count} logs, {len(wrong)} to be looked at"]))
+        print("\n".join(wrong + [f"edits: {count} edits, {len(wrong)} to be looked at"]))
         return 1 if wrong else 0
     if words[:1] == ["list"]:
         unknown = [c for c in words[1:] if not os.path.isdir(f"crates/{c}")]

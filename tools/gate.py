@@ -1,30 +1,50 @@
 #!/usr/bin/env python3
-"""gate.py [LOG] [--times FILE] [--crates N] [--edits N]: what each crate and each must-fail edit of a gate cost, dearest first.
+"""gate.py [LOG] [--times FILE]: whether a gate passed, what it proved, and which must-fail edits are to be looked at.
 
-LOG is what `rt ci`, `rt check` or `rt must-fail` printed; without it standard input is read. `.ci/run` leaves target/gate.log.
-The seconds there are wall seconds of checks that ran beside others, so they say what costs more than what, and not how long
-anything takes alone. With --times, a file that bash's `times` wrote after that command, the core minutes of the whole are
-shared out by these seconds. --crates and --edits print only so many rows, and the rest in one line. An edit costs a check of
-its crate."""
+LOG is what `rt ci` printed; without it standard input is read. `.ci/run` leaves target/gate.log. A bad edit is one whose text does not
+stand in its file or cannot be read: it shows nothing of a promise, and `rt ci` passes all the same, but the gate does not. With --times, a
+file that bash's `times` wrote after that command, the core minutes are told. Exit status: 0 it passed, 1 it did not, or an edit is bad,
+2 bad usage."""
 import re
 import sys
 from pathlib import Path
 
-CHECK = re.compile(r"^rt: (\w+) (?:proved|NOT PROVED) \((?:exit \d+, )?(\d+) s\)$")
-EDIT = re.compile(r"^rt: must-fail (\w+)/(\w+): (?:refused, as it must be|NOT REFUSED).*?[(;] ?(\d+) s\)$")
+PROVED = re.compile(r"^rt: (\w+)(: its tests)? (proved|NOT PROVED|is kept)\b")
+FUNCTIONS = re.compile(r"^logic=proved functions=(\d+) ")
+EDIT = re.compile(r"^rt: must-fail (\w+)/([\w.-]+)\.edit: (refused, as it must be|NOT REFUSED|NOT TRIED|BAD EDIT)(.*)$")
+OK = re.compile(r"^rt: ok; ")
+BAD = re.compile(r", (\d+) bad\b")
 TIMES = re.compile(r"(\d+)m([\d.]+)s")
+# What `rt` says behind the refusal of an edit that says little of a promise, and the words for it here.
+LITTLE = {"(only because a proof file names what the edit took away": "by a name", "(only by a limit": "by a limit"}
 
 
-def read_log(lines):
-    """The seconds of each crate's check, and of each edit."""
-    checks, edits = {}, {}
-    for line in lines:
-        check, edit = CHECK.match(line.rstrip()), EDIT.match(line.rstrip())
-        if check:
-            checks[check.group(1)] = int(check.group(2))
-        if edit:
-            edits[edit.group(1), edit.group(2)] = int(edit.group(3))
-    return checks, edits
+class Log:
+    """What a run of `rt ci` printed: each crate's verdict, the functions proved in this run, each edit's, and the line `rt: ok`."""
+
+    def __init__(self, lines):
+        self.crates, self.functions, self.edits, self.ok, self.last = {}, 0, {}, None, ""
+        for line in lines:
+            line = line.rstrip()
+            crate, functions, edit = PROVED.match(line), FUNCTIONS.match(line), EDIT.match(line)
+            if crate and not crate.group(2):
+                self.crates[crate.group(1)] = crate.group(3)
+            if functions:
+                self.functions += int(functions.group(1))
+            if edit:
+                said = next((words for start, words in LITTLE.items() if edit.group(4).strip().startswith(start)), "")
+                self.edits[edit.group(1), edit.group(2)] = f"refused {said}".strip() if edit.group(3).startswith("refused") else edit.group(3)
+            if OK.match(line):
+                self.ok = line
+            self.last = line or self.last
+
+    def bad(self):
+        """How many edits are bad, by the line `rt: ok` and by the edits' own lines."""
+        told = BAD.search(self.ok or "")
+        return max(int(told.group(1)) if told else 0, list(self.edits.values()).count("BAD EDIT"))
+
+    def passed(self):
+        return self.ok is not None and re.fullmatch(r"\d+ passed, 0 failed", self.last) is not None and not self.bad()
 
 
 def core_seconds(text):
@@ -32,69 +52,35 @@ def core_seconds(text):
     return sum(60 * int(m) + float(s) for m, s in TIMES.findall(text.strip().split("\n")[-1]))
 
 
-def by_crate(checks, edits):
-    """For each crate its name, the number of its edits and the seconds of its check and its edits, dearest first."""
-    rows = []
-    for crate in set(checks) | {c for c, _ in edits}:
-        own = [s for (c, _), s in edits.items() if c == crate]
-        rows.append((crate, len(own), checks.get(crate, 0), sum(own)))
-    return sorted(rows, key=lambda r: (-r[2] - r[3], r[0]))
-
-
-class Scale:
-    """Seconds of the log as a share of all of them, and as core minutes where those are known."""
-
-    def __init__(self, total, core):
-        self.total, self.core = max(total, 1), core
-
-    def told(self, seconds):
-        minutes = f"{self.core / 60 * seconds / self.total:9.2f}" if self.core else ""
-        return f"{seconds:8} {100 * seconds / self.total:6.1f} %{minutes}"
-
-
-def table(checks, edits, core, most_crates, most_edits):
-    """The lines of both tables."""
-    total = sum(checks.values()) + sum(edits.values())
-    scale, crates = Scale(total, core), by_crate(checks, edits)
-    dearest = sorted(edits.items(), key=lambda e: (-e[1], e[0]))
-    head = f"gate: {len(checks)} checks, {len(edits)} edits, {total} s, of checks that ran beside each other"
-    lines = [head + (f"; {core / 60:.1f} core minutes in all, shared out by these seconds" if core else "")]
-    minutes = " core min" if core else ""
-    lines.append(f"{'crate':16} {'check':>8} {'edits':>6} {'of edits':>8} {'seconds':>8} {'share':>8}{minutes}")
-    for name, count, check, own in crates[:most_crates]:
-        lines.append(f"{name:16} {check:8} {count:6} {own:8} {scale.told(check + own)}")
-    rest = crates[most_crates:] if most_crates is not None else []
-    if rest:
-        count, check, own = (sum(r[i] for r in rest) for i in (1, 2, 3))
-        lines.append(f"{f'{len(rest)} more':16} {check:8} {count:6} {own:8} {scale.told(check + own)}")
-    lines.append(f"{'edit':58} {'seconds':>8} {'share':>8}{minutes}")
-    for (crate, label), seconds in dearest[:most_edits]:
-        lines.append(f"{crate + '/' + label:58} {scale.told(seconds)}")
-    return lines
+def told(log, core):
+    """What is told of a log, a line for each edit that is to be looked at first."""
+    lines = [f"{crate}/{label}: {said}" for (crate, label), said in sorted(log.edits.items()) if said != "refused"]
+    kept, proved = (list(log.crates.values()).count(it) for it in ("is kept", "proved"))
+    refused = sum(said.startswith("refused") for said in log.edits.values())
+    line = f"gate: {len(log.crates)} crates, {proved} proved in this run, with {log.functions} functions, and {kept} in an earlier one of the same files"
+    line += f"; {refused} of {len(log.edits)} edits refused, {log.bad()} bad"
+    return lines + [line + (f"; {core / 60:.1f} core minutes" if core else "")]
 
 
 def main(words):
     if "--help" in words or "-h" in words:
         print(__doc__)
         return 0
-    given, log = {"--times": None, "--crates": None, "--edits": None}, None
+    times = path = None
     while words:
         word = words.pop(0)
-        if word in given and words:
-            given[word] = words.pop(0)
-        elif word.startswith("-") or log:
+        if word == "--times" and words:
+            times = words.pop(0)
+        elif word.startswith("-") or path:
             print(__doc__)
             return 2
         else:
-            log = word
-    most = [int(given[k]) if given[k] else None for k in ("--crates", "--edits")]
-    checks, edits = read_log(Path(log).read_text(encoding="utf8", errors="replace").split("\n") if log else sys.stdin)
-    if not checks and not edits:
-        print("gate: there is no check and no edit in this log")
-        return 1
-    core = core_seconds(Path(given["--times"]).read_text()) if given["--times"] else 0
-    print("\n".join(table(checks, edits, core, *most)))
-    return 0
+            path = word
+    log = Log(Path(path).read_text(encoding="utf8", errors="replace").split("\n") if path else sys.stdin)
+    print("\n".join(told(log, core_seconds(Path(times).read_text(encoding="utf8")) if times else 0)))
+    if not log.passed():
+        print("gate: NOT PASSED", file=sys.stderr)
+    return 0 if log.passed() else 1
 
 
 if __name__ == "__main__":

@@ -12,7 +12,7 @@ import sys
 
 HEAD = re.compile(r"^(?:unfoldable |abbrev )?(?:pub )?(?:(data|record) )?([^\s:]+)")
 USE = re.compile(r"^use (\S+?)\.\{([^}]*)\}$")
-OWN = re.compile(r"^Rattle·(\w+?)(?:·specs)?\.specs\.(declared\.)?(\w+)(?:\.the-variants)?$")
+OWN = re.compile(r"^Rattle\.(\w+)\.specs\.(declared\.)?(\w+)(?:\.TheVariants)?$")
 
 
 class Definition:
@@ -57,8 +57,8 @@ class Module:
         for name in use.group(2).split(",") if use else []:
             there, _, here = name.strip().partition(" as ")
             target = OWN.match(use.group(1))
-            if not target:
-                self.library[(here or there).strip("_")] = (use.group(1), there)
+            if not target or not os.path.isdir(f"crates/{target.group(1)}"):
+                self.library[(here or there).strip("◌")] = (use.group(1), there)
             elif target.group(2):
                 self.structs[here or there] = (target.group(1), target.group(3))
             else:

@@ -5,7 +5,7 @@
   tools/stack.py print    prints these lines, and writes nothing
 
 A call's line is what the test saw it take, with at least 256 bytes added, rounded up to a multiple of 1024; VJ_STACK_MOST is the greatest.
-Run it from the repository's root, after `rt staticlib journal_c`. Exit status: 0 the lines are written or printed, 1 the test measured
+Run it from the repository's root, after `tools/build journal_archive`. Exit status: 0 the lines are written or printed, 1 the test measured
 other calls than the header has lines for, 2 bad usage."""
 import re
 import subprocess

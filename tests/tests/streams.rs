@@ -32,8 +32,8 @@ struct Program {
     longest: usize,
 }
 
-/// A proved program, which `rt check` writes to target/bin: a long input, and how long
-/// an input can be.
+/// A proved program, which `tools/build` puts into target/bin: a long input, and how
+/// long an input can be.
 type Proved = (&'static str, fn() -> Vec<u8>, usize);
 
 const PROVED: [Proved; 3] = [

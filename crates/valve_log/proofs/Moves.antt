@@ -100,6 +100,7 @@ live_length index b = sorted_length (keep (in_block b) index)
 -- the others stay
 in_put : (k a : ℕ) {x : Cell} (l : List Cell) → (x.key ≡ k → ⊥) → In x l → In x (put k a l)
 unfolding put
+in_put k a {x = x} [] h i = elim i [ ]
 in_put k a {x} (y ∷ l) h i =
     by_cases (ltb k y.key) (λ e. rw e (later i))
     (λ e. by_cases (eqb k y.key) (λ f. rw (e, f) (later (beyond (in_cases i) f))) (λ f. rw (e, f) (under (in_cases i) (in_put k a l h))))
@@ -115,6 +116,7 @@ in_put k a {x} (y ∷ l) h i =
 put_out : (b n k a a' : ℕ) (l : List Cell) → rising_from n l ≡ true → In (cell k a) l → in_block b (cell k a) ≡ true
     → in_block b (cell k a') ≡ false → suc (length (keep (in_block b) (put k a' l))) ≡ length (keep (in_block b) l)
 unfolding put keep
+put_out b n k a a' [] r i t f = elim i [ ]
 put_out b n k a a' (y ∷ l) r i t f = go (in_cases i) (λ j. put_out b (suc y.key) k a a' l rest j t f)
   where
     rest : rising_from (suc y.key) l ≡ true

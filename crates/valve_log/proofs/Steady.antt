@@ -1,5 +1,5 @@
 -- On a reached medium, with the state last handed back, no call answers 1, 6, 7 or 16.
-use mathlib.Core.Path.{◌≡◌, refl, sym, ap, ◌∙◌}
+use mathlib.Core.Path.{◌≡◌, refl, sym, ap, subst, ◌∙◌}
 use mathlib.Core.Bool.{Bool, true}
 use mathlib.Core.Option.{Option, none, some}
 use mathlib.Core.List.{List, [], ◌∷◌, ◌++◌}
@@ -106,7 +106,11 @@ unfolding wholes all
 wholes_inside n [] = refl
 wholes_inside n (clean ∷ v) = let z : n + suc (length v) ≡ suc n + length v = omega arith in rw z (wholes_inside (suc n) v)
 wholes_inside n (spoilt ∷ v) = let z : n + suc (length v) ≡ suc n + length v = omega arith in rw z (wholes_inside (suc n) v)
-wholes_inside n (whole pg ∷ v) = let z : n + suc (length v) ≡ suc n + length v = omega arith in rw (z, lt-ltb n (suc n + length v) (omega arith)) (wholes_inside (suc n) v)
+wholes_inside n (whole pg ∷ v) =
+    let z : n + suc (length v) ≡ suc n + length v = omega arith in
+    let first : all (λ x. ltb x.at (suc n + length v)) (wholes n (whole pg ∷ v)) ≡ true =
+    rw (lt-ltb n (suc n + length v) (omega arith)) (wholes_inside (suc n) v) in
+    subst (λ (k : ℕ). all (λ (x : Placed). ltb x.at k) (wholes n (whole pg ∷ v)) ≡ true) (sym z) first
 
 pub all_last : (f : Placed → Bool) (d : Placed) (l : List Placed) → 1 ≤ length l → all f l ≡ true → f (last_of d l) ≡ true
 unfolding last_of

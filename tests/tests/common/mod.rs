@@ -14,7 +14,7 @@ use std::process::{Command, Stdio};
 use std::sync::atomic::{AtomicUsize, Ordering};
 use std::sync::OnceLock;
 
-/// A proved program; `rt check` writes it.
+/// A proved program; `tools/build` puts it there.
 pub fn proved(program: &str) -> String {
     format!("{}/../target/bin/{program}", env!("CARGO_MANIFEST_DIR"))
 }
@@ -26,7 +26,7 @@ pub fn printed(program: &str, input: &[u8]) -> String {
         .stdout(Stdio::piped())
         .stderr(Stdio::piped())
         .spawn()
-        .expect("the program in target/bin, which `rt check` writes");
+        .expect("the program in target/bin, which `tools/build` puts there");
     // The program may close its input once it has read enough.
     if let Err(error) = child.stdin.take().expect("its input").write_all(input) {
         assert_eq!(error.kind(), ErrorKind::BrokenPipe);

@@ -1,0 +1,9 @@
+use Rattle.compose.proofs.Laws.{word_found, word_missing}
+use borrow.Author.Rules.{rules}
+use Rattle.reply_lines.proofs.word.Goals as goal
+
+pub returns-in_default : goal.returns-in_default
+returns-in_default c = search word_missing
+
+pub returns : goal.returns
+returns c = search word_found

@@ -1,0 +1,9 @@
+use Rattle.index.proofs.Pairs.{held_past, held_there}
+use borrow.Author.Rules.{rules}
+use Rattle.wanted_group.proofs.is_at.Goals as goal
+
+pub returns-then-n-at : goal.returns-then-n-at
+returns-then-n-at c = search (held_past, rules)
+
+pub returns : goal.returns
+returns c = search (held_there, rules)
