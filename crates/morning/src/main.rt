@@ -3,16 +3,32 @@
 // that there are more. Where reading or writing fails that is told on standard error, and after a failed read nothing is printed.
 #![tactic(auto)]
 
+ghost use Rattle.std.specs.Prelude.{◌≡◌, length};
+
 use std::io;
 
+// Room for the longest medium that is listed, and one byte more.
+fn input_room() -> [u8; 65537]
+    ensures { 65537 ≡ length result }
+{
+    [0; 65537]
+}
+
+// Room for the longest listing.
+fn text_room() -> [u8; 524288]
+    ensures { 524288 ≡ length result }
+{
+    [0; 524288]
+}
+
 fn main(rt: HostRuntime) {
-    let mut b = [0u8; 65537];
+    let mut b = input_room();
     let r = streams::read(&mut rt.stdin(), &rt, &mut b);
     if r.failed {
         return;
     }
     let n = r.count;
-    let mut out = [0u8; 524288];
+    let mut out = text_room();
     let k = listing::medium(&b[..n], &mut out);
     streams::write(&mut io::writer(&rt), &rt, &out[..k]);
 }

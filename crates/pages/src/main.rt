@@ -4,29 +4,39 @@
 // nothing more.
 #![tactic(auto)]
 
-ghost use Rattle.std.specs.Prelude.{◌≡◌, ◌<◌, length};
+ghost use Rattle.std.specs.Prelude.{not, ◌≡◌, ◌<◌, length};
+ghost use Rattle.streams.specs.Streams.{Gave};
 ghost use Rattle.text.specs.Parts.{PartAt, PrintsAll};
 ghost use Rattle.page_text.specs.PageText.{pages_text};
 
 use std::io;
+use std::io::Write;
 use text::Printed;
 
 // Bytes of the text of a medium on standard output, of which those before this place were written; whether they were written.
-fn write_part(rt: &(impl Print + Eprint), m: &[u8], from: usize, part: &[u8]) -> bool
+fn write_part<W: Write>(
+    output: &mut W,
+    errors: &impl Eprint,
+    m: &[u8],
+    from: usize,
+    part: &[u8],
+) -> bool
     requires { PartAt (pages_text m.now) from part.now }
+    ensures { Gave (W.contents output.old) (W.contents output.new) part.now result }
 {
-    streams::write(&mut io::writer(rt), rt, part)
+    streams::write(output, errors, part)
 }
 
 // The text of a medium, as many bytes at a time as the lent list is long.
-fn print(rt: &(impl Print + Eprint), m: &[u8], out: &mut [u8]) -> Printed
+fn print<W: Write>(output: &mut W, errors: &impl Eprint, m: &[u8], out: &mut [u8]) -> Printed
     requires { 0 < length out.old }
-    ensures { PrintsAll (pages_text m.now) result }
+    ensures all { PrintsAll (pages_text m.now) result }
+    ensures gave { Gave (W.contents output.old) (W.contents output.new) (pages_text m.now) (not result.failed) }
 {
     let mut from: usize = 0;
     loop {
         let k = page_text::window(m, from, out);
-        if !write_part(rt, m, from, &out[..k]) {
+        if !write_part(output, errors, m, from, &out[..k]) {
             return Printed {
                 failed: true,
                 count: from,
@@ -64,5 +74,5 @@ fn main(rt: HostRuntime) {
     }
     let n = r.count;
     let mut out = text_room();
-    print(&rt, &b[..n], &mut out);
+    print(&mut io::writer(&rt), &rt, &b[..n], &mut out);
 }

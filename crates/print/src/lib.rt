@@ -1,6 +1,8 @@
 // Lines on standard output, for the programs that run the papers' examples: text, numbers, answers of calls, and listings.
 #![tactic(auto)]
 
+ghost use Rattle.std.specs.Prelude.{◌≡◌, length};
+
 use std::io;
 
 // Text as it is.
@@ -46,9 +48,16 @@ pub fn change(rt: &(impl Print + Eprint), group: u32, key: u16, word: u64) {
     text(rt, &out[..k]);
 }
 
+// Room for the longest listing.
+fn room() -> [u8; 524288]
+    ensures { 524288 ≡ length result }
+{
+    [0; 524288]
+}
+
 // The listing of a medium.
 pub fn medium(rt: &(impl Print + Eprint), m: &[u8]) {
-    let mut out = [0u8; 524288];
+    let mut out = room();
     let k = listing::medium(m, &mut out);
     text(rt, &out[..k]);
 }

@@ -3,37 +3,48 @@
 // there are more. Where reading or writing fails that is told on standard error, and after a failed read nothing is printed.
 #![tactic(auto)]
 
-ghost use Rattle.std.specs.Prelude.{◌≡◌, ◌<◌, length};
+ghost use Rattle.std.specs.Prelude.{not, ◌≡◌, ◌<◌, length};
+ghost use Rattle.streams.specs.Streams.{Gave};
 ghost use Rattle.text.specs.Parts.{PartAt, PrintsAll};
 ghost use Rattle.page.specs.Buffer.{buffer_bytes};
 ghost use Rattle.run_text.specs.RunText.{run_text};
 
 use std::io;
+use std::io::Write;
 use text::Printed;
 
 // Bytes of the text of a trace on standard output, of which those before this place were written; whether they were written.
-fn write_part(rt: &(impl Print + Eprint), t: &[u8], from: usize, part: &[u8]) -> bool
+fn write_part<W: Write>(
+    output: &mut W,
+    errors: &impl Eprint,
+    t: &[u8],
+    from: usize,
+    part: &[u8],
+) -> bool
     requires { PartAt (run_text t.now) from part.now }
+    ensures { Gave (W.contents output.old) (W.contents output.new) part.now result }
 {
-    streams::write(&mut io::writer(rt), rt, part)
+    streams::write(output, errors, part)
 }
 
 // The text of a trace, window after window: the trace is played from its start for each, on a medium and with a buffer that are lent for
 // that.
-fn print(
-    rt: &(impl Print + Eprint),
+fn print<W: Write>(
+    output: &mut W,
+    errors: &impl Eprint,
     t: &[u8],
     m: &mut [u8],
     b: &mut [u8],
     out: &mut [u8],
 ) -> Printed
     requires { (length m.old ≡ 65536) × (length b.old ≡ buffer_bytes) × (0 < length out.old) }
-    ensures { PrintsAll (run_text t.now) result }
+    ensures all { PrintsAll (run_text t.now) result }
+    ensures gave { Gave (W.contents output.old) (W.contents output.new) (run_text t.now) (not result.failed) }
 {
     let mut from: usize = 0;
     loop {
         let k = run_text::window(t, from, m, b, out);
-        if !write_part(rt, t, from, &out[..k]) {
+        if !write_part(output, errors, t, from, &out[..k]) {
             return Printed {
                 failed: true,
                 count: from,
@@ -49,16 +60,37 @@ fn print(
     }
 }
 
+// Room for the longest medium of a trace.
+fn medium_room() -> [u8; 65536]
+    ensures { 65536 ≡ length result }
+{
+    [0; 65536]
+}
+
+// Room for a part of the text.
+fn text_room() -> [u8; 524288]
+    ensures { 524288 ≡ length result }
+{
+    [0; 524288]
+}
+
+// Room for the longest trace, and one byte more.
+fn input_room() -> [u8; 65537]
+    ensures { 65537 ≡ length result }
+{
+    [0; 65537]
+}
+
 // A trace.
 fn rerun(rt: &(impl Print + Eprint), t: &[u8]) {
-    let mut m = [0u8; 65536];
+    let mut m = medium_room();
     let mut b = [0u8; 256];
-    let mut out = [0u8; 524288];
-    print(rt, t, &mut m, &mut b, &mut out);
+    let mut out = text_room();
+    print(&mut io::writer(rt), rt, t, &mut m, &mut b, &mut out);
 }
 
 fn main(rt: HostRuntime) {
-    let mut t = [0u8; 65537];
+    let mut t = input_room();
     let r = streams::read(&mut rt.stdin(), &rt, &mut t);
     if r.failed {
         return;

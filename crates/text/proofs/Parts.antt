@@ -8,7 +8,10 @@ use native.Mathlib.Decide.{dec_le}
 use mir.Val.{Fits}
 use mir.Syntax.{w64}
 use lib.ListN.{length, take, drop}
-use lib.Seq.{length-take-le, take_all}
+use lib.Seq.{length-take-le, take_all, take-add, take-take}
+use Rattle.std.proofs.KnownBytes.{Appends-trans}
+use Rattle.std.specs.Io.KnownBytes.{Appends}
+use Rattle.std.specs.declared.option.Option.{Option}
 use Rattle.lists.proofs.Laws.{true_false}
 use Rattle.text.specs.declared.WindowState.{WindowState}
 use Rattle.text.specs.Text.{Holds}
@@ -29,6 +32,11 @@ window_itself from size text = go (dec_le size (length (drop from text)))
         ap (λ (k : ℕ). take k (drop from text)) (ap length e)
         ∙ take_all (length (drop from text)) (drop from text) (omega arith)
         ∙ sym e
+
+-- the first bytes of a window are those of the text from there on
+of_window : (from size n : ℕ) (text : List ℕ) → n ≤ size → take n (window from size text) ≡ take n (drop from text)
+unfolding window
+of_window from size n text h = take-take n size (drop from text) h
 
 -- a window on a whole text that is not too long
 pub sees_shown : {out : List ℕ} {from : ℕ} {text out' : List ℕ} {w : WindowState} → length text ≤ most_printed
@@ -68,6 +76,19 @@ module _ (text out₀ out : List ℕ) (from : ℕ) (P : Printing text out₀ out
   printing_end h =
       let f = P.far in
       record { all = λ e. omega (arith, length_is text from out' k s, length_window from (length out') text) }
+
+  -- so many bytes of the part were written behind those of the text before it
+  module _ (n : ℕ) (few : n ≤ length (take k out')) where
+    pub printing_within : from + n ≤ length text
+    printing_within =
+        let f = P.far in
+        omega (arith, ap length s.holds.is, length_window from (length out') text)
+
+    pub printing_bytes : (old mid new : Option (List ℕ)) → Appends old mid (take from text) → Appends mid new (take n (take k out'))
+        → Appends old new (take (from + n) text)
+    printing_bytes old mid new a b =
+        let l : n ≤ length out' = omega (arith, ap length s.holds.is, length_window from (length out') text) in
+        rw (take-add from n text) (Appends-trans old mid new _ _ a (rw (s.holds.is, of_window from (length out') n text l) at b))
 
   module _ (h : length out' ≤ k) (same : length out' ≡ length out) where
     pub printing_next : Printing text out₀ out' (from + k)
