@@ -1,7 +1,5 @@
--- The list is too long for its elements to be counted.
-use Rattle.std.proofs.Common.{sym}
-use Rattle.std.proofs.Math.ListN.{length-replicate}
+use Rattle.print.proofs.Laws.{zeros_long}
 use Rattle.print.proofs.room.Goals as goal
 
 pub returns : goal.returns
-returns c = sym (length-replicate 524288 0)
+returns c = zeros_long 524288

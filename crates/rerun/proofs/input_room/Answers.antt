@@ -1,7 +1,5 @@
--- The list is too long for its elements to be counted.
-use Rattle.std.proofs.Common.{sym}
-use Rattle.std.proofs.Math.ListN.{length-replicate}
+use Rattle.rerun.proofs.Laws.{zeros_long}
 use Rattle.rerun.proofs.input_room.Goals as goal
 
 pub returns : goal.returns
-returns c = sym (length-replicate 65537 0)
+returns c = zeros_long 65537
