@@ -4,3 +4,6 @@ use Rattle.trials.proofs.cut.Goals as goal
 
 pub slice_bounds-pattern-end : goal.slice_bounds-pattern-end
 slice_bounds-pattern-end c = search (pattern_most, rules)
+
+pub slice_bounds-call-end-3 : goal.slice_bounds-call-end-3
+slice_bounds-call-end-3 c = search (length_pattern, rules)
