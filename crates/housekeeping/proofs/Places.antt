@@ -1,5 +1,5 @@
 -- Where pages stand: the newest page lies in the head's block, and the pages of a base that is the newest lie in that block and one other.
-use mathlib.Core.Path.{◌≡◌, refl, sym, ap, ◌∙◌}
+use mathlib.Core.Path.{◌≡◌, refl, sym, subst, ap, ◌∙◌}
 use mathlib.Core.Logic.{◌⊎◌, inl, inr}
 use mathlib.Core.Bool.{Bool, true, false, not, ◌||◌}
 use mathlib.Core.List.{List, [], ◌∷◌, ◌++◌}
@@ -112,7 +112,8 @@ same_at n (whole x ∷ v) (suc q) pg d e =
     let o : other_serial x.serial (placed (suc n + q) pg) ≡ true =
     wholes_at (other_serial x.serial) (suc n) v q pg (and_l (all (other_serial x.serial) (wholes (suc n) v)) (distinct (wholes (suc n) v)) d) e in
     and_both (or_left (not (eqb x.serial pg.serial)) (eqb n (n + suc q)) (not_eqb pg.serial x.serial (other_back x.serial (placed (suc n + q) pg) o)))
-    (rw z (same_at (suc n) v q pg (and_r (all (other_serial x.serial) (wholes (suc n) v)) (distinct (wholes (suc n) v)) d) e))
+    (subst (λ (k : ℕ). all (λ (y : Placed). not (eqb (serial_of y) pg.serial) || eqb y.at k) (wholes (suc n) v) ≡ true) (sym z)
+    (same_at (suc n) v q pg (and_r (all (other_serial x.serial) (wholes (suc n) v)) (distinct (wholes (suc n) v)) d) e))
 
 module _ {v : List View} {log : List (List Entry)} {settings : List Place} {b : ℕ} {ch : List Placed} {gs : List Group} {idx : List Place} (S : Sound v log settings b ch gs idx) where
   pub serial_below : (q : ℕ) (pg : Page) → seen v q ≡ whole pg → pg.serial < b + length ch
