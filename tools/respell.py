@@ -3,8 +3,8 @@
 
 usage: tools/respell.py [--list]     at the top of the repository, once; --list prints the table and writes nothing
 
-`pagesIn` becomes `pages_in`, `count-next` becomes `count_next`. A name that would meet another keeps its dashes, which also join the parts of a
-name there; a name that a library declares, and one that stands for a goal of a function, stays. Functions, strings and inputs are not touched.
+`pagesIn` becomes `pages_in`, `count-next` becomes `count_next`, and `X_lem` where a lemma would meet another name. A name that a library
+declares, and one that stands for a goal of a function, stays. Functions, strings and inputs are not touched.
 """
 
 import collections
