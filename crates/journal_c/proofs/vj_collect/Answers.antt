@@ -1,3 +1,4 @@
+use borrow.Author.Rules.{rules}
 use Rattle.begin.proofs.Laws.{collect_begun, collect_refused}
 use Rattle.journal_c.proofs.vj_collect.Goals as goal
 

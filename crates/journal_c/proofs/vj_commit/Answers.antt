@@ -1,3 +1,4 @@
+use borrow.Author.Rules.{rules}
 use Rattle.begin.proofs.Laws.{commit_begun, commit_refused}
 use Rattle.journal_c.proofs.vj_commit.Goals as goal
 

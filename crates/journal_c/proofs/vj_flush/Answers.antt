@@ -1,3 +1,4 @@
+use borrow.Author.Rules.{rules}
 use Rattle.begin.proofs.Laws.{flush_begun, flush_refused}
 use Rattle.journal_c.proofs.vj_flush.Goals as goal
 
