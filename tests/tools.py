@@ -240,6 +240,7 @@ class Edits(unittest.TestCase):
                 os.chdir(before)
         self.assertEqual(count, 3)
         self.assertEqual(faults, ["docs/READING.md:8: there is no crates/page/must-fail/wrong_check.edit",
+                                  "crates/page/must-fail/not_named.edit: docs/READING.md does not name it",
                                   "crates/flash/must-fail/wrong_page.edit: its old text stands 0 times in crates/flash/src/lib.rt"])
 
     def test_first_errors(self):

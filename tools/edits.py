@@ -1,8 +1,8 @@
 #!/usr/bin/env python3
 """edits.py: holds the must-fail edits, crates/CRATE/must-fail/LABEL.edit, to their files, to docs/READING.md and to what the prover says.
 
-  tools/edits.py          the text after each `old:` stands once in its file, and each edit that the table of
-                          "What is ruled out" names is there
+  tools/edits.py          each edit that the tables of "What is ruled out" name is there, each edit that is there is named
+                          in them, and the text after each `old:` stands once in its file
   tools/edits.py list [CRATE ..]
                           prints each edit, of all crates or of those named: its label in words, its file, and what it changes
   tools/edits.py errors [LOG]
@@ -90,11 +90,13 @@ def print_all(crates):
 
 
 def check_names(reading):
-    """What is wrong between the table and the edits, and the edits with their files."""
-    there, wrong = labels(), []
+    """What is wrong between the tables and the edits, and the edits with their files."""
+    there, named, wrong = labels(), set(), []
     for number, crate, label in named_in(Path(reading).read_text(encoding="utf8")):
+        named.add((crate, label))
         if (crate, label) not in there:
             wrong.append(f"{reading}:{number}: there is no crates/{crate}/must-fail/{label}.edit")
+    wrong += [f"crates/{c}/must-fail/{l}.edit: {reading} does not name it" for c, l in sorted(there - named)]
     for crate, label in sorted(there):
         edit = f"crates/{crate}/must-fail/{label}.edit"
         pairs = list(pairs_of(edit))
