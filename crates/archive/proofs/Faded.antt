@@ -2,7 +2,7 @@
 -- serial is not smaller than that of the mark goes on where the archive is.
 use mathlib.Core.Path.{◌≡◌, refl, sym, ap, ◌∙◌}
 use mathlib.Core.Logic.{◌⊎◌, inl, inr}
-use mathlib.Core.Option.{Option, none, some}
+use Rattle.std.proofs.Common.{Option, None, Some}
 use mathlib.Core.List.{List, ◌++◌}
 use Prim.Native.Nat.{ℕ, ◌≤◌, ◌<◌}
 use native.Mathlib.Omega.{arith}
@@ -16,7 +16,8 @@ use Rattle.page.proofs.More.{changes_append}
 use Rattle.flash.specs.Medium.{views}
 use Rattle.recovery.specs.Recovery.{Recovery, recovery_with, recover as recover_of}
 use Rattle.news.specs.declared.News.{News}
-use Rattle.news.specs.News.{Mark, mark, refused_news, news_after, news_of}
+use Rattle.news.specs.declared.Mark.{Mark}
+use Rattle.news.specs.News.{mark, refused_news, news_after, news_of}
 use Rattle.valve_log.specs.History.{History}
 use Rattle.valve_log.specs.Reached.{World, Reached, Shows}
 use Rattle.valve_log.specs.Made.{groups_made}
@@ -37,12 +38,12 @@ news_refused : (k : Mark) (m : List ℕ) (n : ℕ) → recover_of (length m) (vi
 unfolding news_of news_after
 news_refused k m n e = rw e
 
-none_read : (k : Mark) (m : List ℕ) (n : ℕ) → recover_of (length m) (views m) ≡ refused n → read k m ≡ none
+none_read : (k : Mark) (m : List ℕ) (n : ℕ) → recover_of (length m) (views m) ≡ refused n → read k m ≡ None
 unfolding read reading_by
 none_read k m n e = ap (reading_by (news_of k m) (views m)) e
 
 -- and so where the call refuses
-none_by : (n : News) (v : List View) (R : Recovery) → n ≡ refused_news 28 → reading_by n v (gives R) ≡ none
+none_by : (n : News) (v : List View) (R : Recovery) → n ≡ refused_news 28 → reading_by n v (gives R) ≡ None
 unfolding reading_by
 none_by n v R e = rw e
 
@@ -63,11 +64,11 @@ module _ (m : List ℕ) (v : World) (g : History) (q : Reached v g) (A : AsThen 
   pub earlier_then : serial_in v < a.mark.serial → news_of a.mark m ≡ refused_news 28
   earlier_then l = news_now m g S (base_in v) (serial_in v) base_then serial_then a ∙ refused_earlier a.mark (mark (base_in v) (serial_in v) (length (changes_of g.log))) l
 
-  none_then : serial_in v < a.mark.serial → read a.mark m ≡ none
+  none_then : serial_in v < a.mark.serial → read a.mark m ≡ None
   unfolding read
   none_then l = ap (reading_by (news_of a.mark m) (views m)) S.accepts ∙ none_by (news_of a.mark m) (views m) (recovery_with S.log S.state) (earlier_then l)
 
-  read_then_lem : KeptIn a v g q → read a.mark m ≡ some (seen_at a (base_in v) (serial_in v) g)
+  read_then_lem : KeptIn a v g q → read a.mark m ≡ Some (seen_at a (base_in v) (serial_in v) g)
   read_then_lem K = read_now m g S (base_in v) (serial_in v) base_then serial_then a K
 
   accepted_then : KeptIn a v g q → (news_of a.mark m).number ≡ 0
@@ -80,7 +81,7 @@ record Going (w : World) (h : History) (r : Reached w h) (a : Archive) : Type 0 
   pub first : FirstPart (groups_made r) a
 
 going_file : {w : World} {h : History} {r : Reached w h} {a : Archive} {x : Reading} (v : World) (g : History) (q : Reached v g) → Going w h r a → AtOrBefore q w h r
-    → a.mark.serial ≤ serial_in v → some x ≡ some (seen_at a (base_in v) (serial_in v) g) → Going w h r (file a x)
+    → a.mark.serial ≤ serial_in v → Some x ≡ Some (seen_at a (base_in v) (serial_in v) g) → Going w h r (file a x)
 unfolding file
 going_file {w} {h} {r} {a} {x} v g q G p l e =
     let K = kept_at q w h r G.all p l in

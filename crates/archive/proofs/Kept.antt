@@ -1,7 +1,7 @@
 -- An archive beside one moment of a list: what it has filed, and what is new to it there, is all that was made by then; and `news` says so.
 use mathlib.Core.Path.{◌≡◌, refl, sym, ap, ◌∙◌}
 use mathlib.Core.Bool.{true, false, cond}
-use mathlib.Core.Option.{some}
+use Rattle.std.proofs.Common.{Some}
 use mathlib.Core.List.{List, [], ◌∷◌, ◌++◌, append-nil, append_assoc}
 use Prim.Native.Nat.{ℕ, ◌+◌, ◌≤◌, ◌<◌}
 use native.Mathlib.Omega.{arith}
@@ -18,7 +18,8 @@ use Rattle.flash.specs.Medium.{views}
 use Rattle.nodes.specs.Nodes.{words}
 use Rattle.recovery.specs.Recovery.{recovery_with, recover as recover_of}
 use Rattle.news.specs.declared.News.{News}
-use Rattle.news.specs.News.{Mark, mark, no_mark, mark_of, comes_after, first_new, refused_news, news_from, compared, news_after, news_of}
+use Rattle.news.specs.declared.Mark.{Mark}
+use Rattle.news.specs.News.{mark, no_mark, mark_of, comes_after, first_new, refused_news, news_from, compared, news_after, news_of}
 use Rattle.valve_log.specs.History.{History, Told, tell}
 use Rattle.valve_log.specs.Reached.{Shows}
 use Rattle.valve_log.specs.SinceCommit.{commit_counts}
@@ -234,12 +235,12 @@ module _ (m : List ℕ) (h : History) (S : Shows m h) (b s : ℕ) (bases : S.sta
     pub news_accepted : news_of a.mark m ≡ news_from (first_new a.mark mark_now) mark_now
     news_accepted = news_now ∙ accepted_after a.mark mark_now K.next K.low K.enough K.late
 
-    read_accepted : (n : News) → n ≡ news_from (first_new a.mark mark_now) mark_now → reading_by n (views m) (gives (recovery_with S.log S.state)) ≡ some (seen_at a b s h)
+    read_accepted : (n : News) → n ≡ news_from (first_new a.mark mark_now) mark_now → reading_by n (views m) (gives (recovery_with S.log S.state)) ≡ Some (seen_at a b s h)
     unfolding reading_by
     read_accepted n e =
         rw (e, S.same_log, words_are (views m) S.same_settings, first_new_lem a.mark b s (length (changes_of h.log)) (changes_of h.log)) refl
 
-    pub read_now : read a.mark m ≡ some (seen_at a b s h)
+    pub read_now : read a.mark m ≡ Some (seen_at a b s h)
     unfolding read
     read_now = ap (reading_by (news_of a.mark m) (views m)) S.accepts ∙ read_accepted (news_of a.mark m) news_accepted
 

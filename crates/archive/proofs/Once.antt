@@ -2,7 +2,7 @@
 use mathlib.Core.Path.{◌≡◌, refl, sym, ap, ◌∙◌}
 use mathlib.Core.Bool.{true}
 use mathlib.Core.Logic.{◌⊎◌, inl, inr}
-use mathlib.Core.Option.{Option, none, some}
+use Rattle.std.proofs.Common.{Option, None, Some}
 use mathlib.Core.List.{List, [], ◌∷◌, ◌++◌, append-nil, append_assoc}
 use Prim.Native.Nat.{ℕ, ◌≤◌}
 use native.Mathlib.Omega.{arith}
@@ -50,7 +50,7 @@ module _ (w : World) (h : History) (r : Reached w h) where
   pub tallied : Tallied (groups_made r) h
   tallied = unfold MadeTallies in made_tallies w h r
 
-  read_in : (a : Archive) → KeptIn a w h r → read a.mark w.medium ≡ some (seen_at a (base_in w) (serial_in w) h)
+  read_in : (a : Archive) → KeptIn a w h r → read a.mark w.medium ≡ Some (seen_at a (base_in w) (serial_in w) h)
   read_in a K = read_now w.medium h shows_in (base_in w) (serial_in w) base_in_lem serial_in_lem a K
 
 -- the settings of a history are what the changes lead to that were filed and are new
@@ -102,12 +102,12 @@ pub record Waits (a : Archive) (since : List (List Entry)) (x : Reading) (later 
   pub ends : EndsWith since later
 
 unfoldable pub WaitsFor : Archive → List (List Entry) → Option Reading → List (List Entry) → (w : World) (h : History) → Reached w h → Type 0
-WaitsFor a since none later w h r = Unit {0}
-WaitsFor a since (some x) later w h r = Waits a since x later w h r
+WaitsFor a since None later w h r = Unit {0}
+WaitsFor a since (Some x) later w h r = Waits a since x later w h r
 
 -- No commit is under way where something has counted since; or there is no state, so that none goes on: what the program before Paper 8 had begun is lost.
 abbrev Busy : List (List Entry) → World → History → Type 0
-Busy since w h = (w.state ≡ none) ⊎ (is_committing h.under_way ≡ true → since ≡ [])
+Busy since w h = (w.state ≡ None) ⊎ (is_committing h.under_way ≡ true → since ≡ [])
 
 pub record Along (a : Archive) (since : List (List Entry)) (p : Option Reading) (later : List (List Entry)) (w : World) (h : History) (r : Reached w h) : Type 0 where
   pub good : Good a since w h r
@@ -116,27 +116,27 @@ pub record Along (a : Archive) (since : List (List Entry)) (p : Option Reading) 
 
 -- without a state a history is told nothing, and no state comes, or a recovery
 abbrev StillOff : Told → Option Held → Type 0
-StillOff t s = ((t ≡ unchanged) × (s ≡ none)) ⊎ (t ≡ recovery)
+StillOff t s = ((t ≡ unchanged) × (s ≡ None)) ⊎ (t ≡ recovery)
 
-recovered_off : (w : World) (R : Answer Recovery) → w.state ≡ none → StillOff (recovered w R).told (recovered w R).after.state
+recovered_off : (w : World) (R : Answer Recovery) → w.state ≡ None → StillOff (recovered w R).told (recovered w R).after.state
 unfolding recovered
 recovered_off w (refused n) q = inl (refl, q)
 recovered_off w (gives r) q = inr refl
 
-happen_off : (m : List ℕ) (s : Option Held) (bs : List ℕ) (e : Event (world m s bs)) → s ≡ none
+happen_off : (m : List ℕ) (s : Option Held) (bs : List ℕ) (e : Event (world m s bs)) → s ≡ None
     → StillOff (happen (world m s bs) e).told (happen (world m s bs) e).after.state
 unfolding happen with_state step_due stepped
-happen_off m (some s) bs e q = none_some (sym q)
-happen_off m none bs (Event.append ks ws a b) q = inl (refl, refl)
-happen_off m none bs Event.commit q = inl (refl, refl)
-happen_off m none bs (Event.collect b) q = inl (refl, refl)
-happen_off m none bs (Event.buffer ks ws a b) q = inl (refl, refl)
-happen_off m none bs Event.flush q = inl (refl, refl)
-happen_off m none bs Event.step q = inl (refl, refl)
-happen_off m none bs Event.recover q = recovered_off (world m none bs) _ refl
-happen_off m none bs Event.read q = inl (refl, refl)
-happen_off m none bs Event.cut q = inl (refl, refl)
-happen_off m none bs (Event.cut_inside left c) q = absurd (unfold CutOf in c)
+happen_off m (Some s) bs e q = none_some (sym q)
+happen_off m None bs (Event.append ks ws a b) q = inl (refl, refl)
+happen_off m None bs Event.commit q = inl (refl, refl)
+happen_off m None bs (Event.collect b) q = inl (refl, refl)
+happen_off m None bs (Event.buffer ks ws a b) q = inl (refl, refl)
+happen_off m None bs Event.flush q = inl (refl, refl)
+happen_off m None bs Event.step q = inl (refl, refl)
+happen_off m None bs Event.recover q = recovered_off (world m None bs) _ refl
+happen_off m None bs Event.read q = inl (refl, refl)
+happen_off m None bs Event.cut q = inl (refl, refl)
+happen_off m None bs (Event.cut_inside left c) q = absurd (unfold CutOf in c)
 
 no_count_off : (h : History) (t : Told) {s : Option Held} → StillOff t s → commit_counts h t ≡ true → ⊥
 unfolding commit_counts
@@ -165,8 +165,8 @@ waits_next : (a : Archive) (since : List (List Entry)) (p : Option Reading) (lat
     → WaitsFor a since p later w h r → (commit_counts h (happen w e).told ≡ true → since ≡ [])
     → WaitsFor a (since ++ groups_counting h (happen w e).told) p (later ++ groups_counting h (happen w e).told) (happen w e).after (tell h (happen w e).told) (Reached.next w h e r)
 unfolding WaitsFor
-waits_next a since none later w h r e W rule = tt
-waits_next a since (some x) later w h r e W rule =
+waits_next a since None later w h r e W rule = tt
+waits_next a since (Some x) later w h r e W rule =
     let E = W.ends in
     let g = groups_counting h (happen w e).told in
     record {
@@ -175,7 +175,7 @@ waits_next a since (some x) later w h r e W rule =
     }
 
 along_start : (w : World) (h : History) (r : Reached w h) → KeptIn nothing_filed w h r → KeptSince nothing_filed w h r → h.log ≡ []
-    → Along nothing_filed [] none [] w h r
+    → Along nothing_filed [] None [] w h r
 unfolding WaitsFor assign_all
 along_start w h r K S l =
     record {
@@ -197,11 +197,11 @@ module _ (w : World) (h : History) (b : Before w h) (before : List Entry) (made 
   unfolding groups_made
   taken_kept = unmarked_kept before [] (base_in w) (serial_in w) h.log (groups_made_before b) made
 
-  taken_read : read no_mark w.medium ≡ some (seen_at (archive before [] no_mark) (base_in w) (serial_in w) h)
+  taken_read : read no_mark w.medium ≡ Some (seen_at (archive before [] no_mark) (base_in w) (serial_in w) h)
   taken_read = read_in (switched_off w) h (Reached.taken_over b) (archive before [] no_mark) taken_kept
 
 along_taken : (w : World) (h : History) (b : Before w h) (before : List Entry) (x : Reading) → before ++ changes_of h.log ≡ changes_of (groups_made_before b)
-    → read no_mark w.medium ≡ some x → Along (file (archive before [] no_mark) x) [] none [] (switched_off w) h (Reached.taken_over b)
+    → read no_mark w.medium ≡ Some x → Along (file (archive before [] no_mark) x) [] None [] (switched_off w) h (Reached.taken_over b)
 unfolding WaitsFor file
 along_taken w h b before x made e =
     let a = archive before [] no_mark in
@@ -246,7 +246,7 @@ along_filings w h r a since p later (reading {later = l} {p = q} F) =
       waits = rw (read_in w h r a K) (record { good = good_file w h r A.good; ends = record { before = since; is = sym (append-nil since) } });
     }
 along_filings w h r a since p later (filing {a = old} {since = s} {x = x} F) =
-    let A = along_filings w h r old s (some x) since F in
+    let A = along_filings w h r old s (Some x) since F in
     let W = A.waits in
     record { good = W.good; busy = busy_filed w h W.ends A.busy; waits = tt }
 
@@ -283,7 +283,7 @@ unfolding RuleCanBeKept
 rule_can_be_kept w h (Reached.start v F e) = record { has = nothing_filed; filings = start F e }
 rule_can_be_kept w h (Reached.next v g e r) =
     let A = rule_can_be_kept v g r in
-    filed_now w h (Reached.next v g e r) A.has _ none _ (event e A.filings (λ q. refl))
+    filed_now w h (Reached.next v g e r) A.has _ None _ (event e A.filings (λ q. refl))
 rule_can_be_kept w h (Reached.taken_over {w = v} {h = g} b) =
     let T = before_tallied v g b in
     let before = changes_of T.before in
@@ -293,7 +293,7 @@ rule_can_be_kept w h (Reached.taken_over {w = v} {h = g} b) =
 -- ---- the rule is needed
 
 -- of an empty log nothing is new, whatever the mark
-reads_nothing : (n : News) (v : List View) (R : Recovery) (x : Reading) → R.log ≡ [] → reading_by n v (gives R) ≡ some x → x.new ≡ []
+reads_nothing : (n : News) (v : List View) (R : Recovery) (x : Reading) → R.log ≡ [] → reading_by n v (gives R) ≡ Some x → x.new ≡ []
 unfolding reading_by
 reads_nothing n v R x e f =
     by_cases (eqb n.number 0)

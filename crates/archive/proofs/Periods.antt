@@ -1,6 +1,6 @@
 -- The archive over several formattings: period after period.
 use mathlib.Core.Path.{◌≡◌, refl, sym, ap, ap₂, ◌∙◌}
-use mathlib.Core.Option.{Option}
+use Rattle.std.proofs.Common.{Option}
 use mathlib.Core.List.{List, [], ◌++◌, append-nil, append_assoc}
 use Rattle.lists.specs.Cells.{Entry}
 use Rattle.page.specs.Pages.{changes_of}

@@ -1,7 +1,7 @@
 -- A commit that comes too early, on a medium of 4 blocks that was just formatted.
 use mathlib.Core.Path.{◌≡◌, refl, sym, ap, subst, ◌∙◌}
 use mathlib.Core.Bool.{Bool, true, false}
-use mathlib.Core.Option.{Option, some}
+use Rattle.std.proofs.Common.{Option, Some}
 use mathlib.Core.List.{List, [], ◌∷◌, ◌++◌}
 use Prim.Native.Nat.{ℕ, suc, ◌+◌, ◌*◌, ◌/◌, ◌^◌, ◌≤◌, ◌<◌}
 use native.Mathlib.Omega.{arith}
@@ -45,16 +45,16 @@ use Rattle.archive.proofs.Examples.{archive_examples}
 
 module _ (m : List ℕ) (v : List View) (s s' : Held) (sees : views m ≡ v) (long : length m ≡ 16384) where
   append_on : (ks ws : List ℕ) (a : Below (2 ^ 16) ks) (b : Below (2 ^ 64) ws) → append_of 16384 v s fresh ks ws ≡ gives s'
-      → happen (world m (some s) fresh) (Event.append ks ws a b) ≡ moment m (some s') fresh (began_append (zip ks ws))
+      → happen (world m (Some s) fresh) (Event.append ks ws a b) ≡ moment m (Some s') fresh (began_append (zip ks ws))
   unfolding happen with_state called
   append_on ks ws a b e = rw (long, sees, e) refl
 
-  commit_on : commit_of 16384 v s fresh ≡ gives s' → happen (world m (some s) fresh) Event.commit ≡ moment m (some s') fresh began_commit
+  commit_on : commit_of 16384 v s fresh ≡ gives s' → happen (world m (Some s) fresh) Event.commit ≡ moment m (Some s') fresh began_commit
   unfolding happen with_state called
   commit_on e = rw (long, sees, e) refl
 
   step_on : (p : ℕ) (pg : Page) (finished : Bool) → eqb pg.kind 4 ≡ false → step_of 16384 v s fresh ≡ gives (Step.program p pg s' finished)
-      → happen (world m (some s) fresh) Event.step ≡ moment (programmed m p pg) (some s') fresh stepped_page
+      → happen (world m (Some s) fresh) Event.step ≡ moment (programmed m p pg) (Some s') fresh stepped_page
   unfolding happen with_state step_due stepped medium_after buffer_after
   step_on p pg finished k e = rw (long, sees, e, k) refl
 
@@ -69,13 +69,13 @@ unfolding groups_made
 leads_next w h e k i L = rw (← i) (record { list = Reached.next w h e L.list; is = ap (λ (l : List (List Entry)). l ++ groups_counting h (happen w e).told) L.is })
 
 -- the pages after a step on a page
-module _ (m : List ℕ) (s : Held) (h : History) (r : Reached (world m (some s) fresh) h) (p : ℕ) (pg : Page) (s' : Held) (finished : Bool)
+module _ (m : List ℕ) (s : Held) (h : History) (r : Reached (world m (Some s) fresh) h) (p : ℕ) (pg : Page) (s' : Held) (finished : Bool)
     (e : step_of (length m) (views m) s fresh ≡ gives (Step.program p pg s' finished)) where
   programs : Programs (views m) s fresh h p pg s'
-  programs = unfold Good in (subst (Good (views m) s fresh h) e (due_good m s fresh h (reached_upheld (world m (some s) fresh) h r)))
+  programs = unfold Good in (subst (Good (views m) s fresh h) e (due_good m s fresh h (reached_upheld (world m (Some s) fresh) h r)))
 
   in_it : 256 * p + 256 ≤ length m
-  in_it = there m s fresh h (reached_upheld (world m (some s) fresh) h r) p pg s' programs
+  in_it = there m s fresh h (reached_upheld (world m (Some s) fresh) h r) p pg s' programs
 
   sees_after : views (programmed m p pg) ≡ set (views m) p (whole pg)
   sees_after = program_views m p pg in_it programs.fits_in
@@ -88,7 +88,7 @@ module _ (m : List ℕ) (s : Held) (h : History) (r : Reached (world m (some s) 
 record Formatted : Type 0 where
   pub medium : List ℕ
   pub erased : List Bool
-  pub leads : Leads (world medium (some (started 4 erased)) fresh) no_history []
+  pub leads : Leads (world medium (Some (started 4 erased)) fresh) no_history []
   pub sees : views medium ≡ written 1
   pub long : length medium ≡ 16384
 
@@ -97,7 +97,7 @@ unfolding FormattingFinishes groups_made steps_on
 formatted m b n =
     let size : size_ok (length m) ≡ true = rw n (unfold size_ok every in refl) in
     let last = formatting_finishes m b size in
-    let first : Held → World = λ s. steps_on (length m / 4096) (world m (some s) fresh) in
+    let first : Held → World = λ s. steps_on (length m / 4096) (world m (Some s) fresh) in
     let begun = formatting (length m / 4096) in
     let same : last.state ≡ begun = same_given (sym last.begun ∙ begun_there (length m) size) in
     let over : finishes (step_due (first begun)) ≡ true = subst (λ (s : Held). finishes (step_due (first s)) ≡ true) same last.last in
@@ -112,7 +112,7 @@ formatted m b n =
       medium = after.medium;
       erased = B.erased;
       leads =
-          subst (λ (s : Option Held). Leads (world after.medium s fresh) no_history []) (B.holds ∙ ap (λ (k : ℕ). some (started k B.erased)) blocks)
+          subst (λ (s : Option Held). Leads (world after.medium s fresh) no_history []) (B.holds ∙ ap (λ (k : ℕ). Some (started k B.erased)) blocks)
           (record { list = Reached.start (first begun) F over; is = refl });
       sees = B.sees ∙ ap (λ (k : ℕ). whole base_page ∷ replicate k clean) pages;
       long = long ∙ n;
@@ -174,7 +174,7 @@ unfolding commit_counts commit_ends_next tell counted pages_for assign_all assig
 counts_then = refl
 
 -- what is read after it, by the pages
-reads_then : (m : List ℕ) → views m ≡ written 3 → length m ≡ 16384 → read no_mark m ≡ some (reading_with [] move (mark 3 4 0))
+reads_then : (m : List ℕ) → views m ≡ written 3 → length m ≡ 16384 → read no_mark m ≡ Some (reading_with [] move (mark 3 4 0))
 unfolding read news_of
 reads_then m v n = rw (v, n) archive_examples.late
 
@@ -188,19 +188,19 @@ module _ (F : Formatted) where
   abbrev two : List ℕ
   two = programmed one 2 page_of_base
 
-  begun : Leads (world F.medium (some (starting (started 4 e) (Pending.append move []))) fresh) (tell no_history (began_append move)) (groups_counting no_history (began_append move))
+  begun : Leads (world F.medium (Some (starting (started 4 e) (Pending.append move []))) fresh) (tell no_history (began_append move)) (groups_counting no_history (began_append move))
   unfolding zip
   begun =
-      leads_next (world F.medium (some (started 4 e)) fresh) no_history (Event.append (5 ∷ []) (1000 ∷ []) (small (2 ^ 16) 5 (omega arith)) (small (2 ^ 64) 1000 (omega arith))) _
+      leads_next (world F.medium (Some (started 4 e)) fresh) no_history (Event.append (5 ∷ []) (1000 ∷ []) (small (2 ^ 16) 5 (omega arith)) (small (2 ^ 64) 1000 (omega arith))) _
       (append_on F.medium (written 1) _ _ F.sees F.long (5 ∷ []) (1000 ∷ []) _ _ (append_begins e)) F.leads
 
   step_one : step_of (length F.medium) (views F.medium) (starting (started 4 e) (Pending.append move [])) fresh ≡ gives (Step.program 1 page_of_group (state_with (head_with 2 3 1) Pending.idle e) true)
   step_one = rw (F.sees, F.long) (append_counts e)
 
-  counted_one : Leads (world one (some (state_with (head_with 2 3 1) Pending.idle e)) fresh) (tell (tell no_history (began_append move)) stepped_page)
+  counted_one : Leads (world one (Some (state_with (head_with 2 3 1) Pending.idle e)) fresh) (tell (tell no_history (began_append move)) stepped_page)
       (groups_counting no_history (began_append move) ++ groups_counting (tell no_history (began_append move)) stepped_page)
   counted_one =
-      leads_next (world F.medium (some (starting (started 4 e) (Pending.append move []))) fresh) (tell no_history (began_append move)) Event.step _
+      leads_next (world F.medium (Some (starting (started 4 e) (Pending.append move []))) fresh) (tell no_history (began_append move)) Event.step _
       (step_on F.medium (written 1) _ _ F.sees F.long 1 page_of_group true refl (append_counts e)) begun
 
   sees_one : views one ≡ written 2
@@ -209,22 +209,22 @@ module _ (F : Formatted) where
   long_one : length one ≡ 16384
   long_one = long_after F.medium _ _ begun.list 1 page_of_group _ true step_one ∙ F.long
 
-  committing : Leads (world one (some (state_with (head_with 2 3 1) (Pending.commit 0) e)) fresh) told_so_far (move ∷ [])
+  committing : Leads (world one (Some (state_with (head_with 2 3 1) (Pending.commit 0) e)) fresh) told_so_far (move ∷ [])
   committing =
-      subst (Leads (world one (some (state_with (head_with 2 3 1) (Pending.commit 0) e)) fresh) told_so_far) made_so_far
-      (leads_next (world one (some (state_with (head_with 2 3 1) Pending.idle e)) fresh) (tell (tell no_history (began_append move)) stepped_page) Event.commit _
+      subst (Leads (world one (Some (state_with (head_with 2 3 1) (Pending.commit 0) e)) fresh) told_so_far) made_so_far
+      (leads_next (world one (Some (state_with (head_with 2 3 1) Pending.idle e)) fresh) (tell (tell no_history (began_append move)) stepped_page) Event.commit _
       (commit_on one (written 2) _ _ sees_one long_one (commit_begins e)) counted_one)
 
   step_two : step_of (length one) (views one) (state_with (head_with 2 3 1) (Pending.commit 0) e) fresh ≡ gives (Step.program 2 page_of_base (state_with (head_with 3 4 3) Pending.idle e) true)
   step_two = rw (sees_one, long_one) (commit_steps e)
 
-  happens_two : happen (world one (some (state_with (head_with 2 3 1) (Pending.commit 0) e)) fresh) Event.step ≡ moment two (some (state_with (head_with 3 4 3) Pending.idle e)) fresh stepped_page
+  happens_two : happen (world one (Some (state_with (head_with 2 3 1) (Pending.commit 0) e)) fresh) Event.step ≡ moment two (Some (state_with (head_with 3 4 3) Pending.idle e)) fresh stepped_page
   happens_two = step_on one (written 2) _ _ sees_one long_one 2 page_of_base true refl (commit_steps e)
 
   too_early_from : TooEarly
   unfolding LostOtherwise
   too_early_from =
-      let w = world one (some (state_with (head_with 2 3 1) (Pending.commit 0) e)) fresh in
+      let w = world one (Some (state_with (head_with 2 3 1) (Pending.commit 0) e)) fresh in
       let r = committing.list in
       let sees = sees_after one _ _ r 2 page_of_base _ true step_two ∙ ap (λ (v : List View). set v 2 (whole page_of_base)) sees_one in
       let long = long_after one _ _ r 2 page_of_base _ true step_two ∙ long_one in

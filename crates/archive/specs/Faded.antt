@@ -1,6 +1,6 @@
 -- Paper 14 and the archive: what it files of a medium some of whose bits have turned from 0 to 1, again and again.
 use Rattle.std.specs.Prelude.{◌≡◌, ◌⊎◌, List, [], ◌++◌, ℕ, ◌≤◌}
-use Rattle.std.proofs.Math.Option.{Option, some}
+use Rattle.std.specs.Prelude.{Option, Some}
 use Rattle.lists.specs.Cells.{Entry}
 use Rattle.page.specs.Pages.{changes_of}
 use Rattle.index.specs.Index.{assign_all}
@@ -14,7 +14,7 @@ use Rattle.archive.specs.Archive.{Reading, read, Archive, file, Filings}
 -- The archive a after the list r, whose medium has faded since, more or less at each reading: it reads what `news` accepts, and files it.
 pub data FadedFilings {w : World} {h : History} (r : Reached w h) : Archive → Type 0 where
   begun : {a : Archive} {since later : List (List Entry)} {p : Option Reading} → Filings w h r a since p later → FadedFilings r a
-  filing : {a : Archive} {x : Reading} (m : List ℕ) → FadedFilings r a → Faded w.medium m → read a.mark m ≡ some x → FadedFilings r (file a x)
+  filing : {a : Archive} {x : Reading} (m : List ℕ) → FadedFilings r a → Faded w.medium m → read a.mark m ≡ Some x → FadedFilings r (file a x)
 
 -- What is filed is always the first part of all that was made: nothing that was not made, nothing twice, nothing out of order; only the last may be missing.
 -- The settings filed last are what all filed changes lead to.

@@ -1,7 +1,7 @@
 -- The archive over several formattings. Formatting erases all that tells one period from another, the next serial too, so whoever formats files all before it
 -- and begins a new mark after it: nothing filed. The archive's files go on.
 use Rattle.std.specs.Prelude.{◌≡◌, List, [], ◌++◌}
-use Rattle.std.proofs.Math.Option.{Option}
+use Rattle.std.specs.Prelude.{Option}
 use Rattle.lists.specs.Cells.{Entry}
 use Rattle.page.specs.Pages.{changes_of}
 use Rattle.valve_log.specs.History.{History}

@@ -1,5 +1,7 @@
 -- Laws of the answers for C, in the shapes that the code's proofs ask.
-use mathlib.Core.Path.{◌≡◌, sym, ap, ◌∙◌}
+use mathlib.Core.Path.{◌≡◌, refl, sym, ap, ◌∙◌}
+use Rattle.std.specs.Prelude.{Result, Ok, Err, replicate}
+use Rattle.std.specs.Result.{result_unwrap_or as unwrap_or}
 use mathlib.Core.List.{List, []}
 use Prim.Native.Nat.{ℕ, ◌+◌, ◌*◌, ◌/◌, ◌%◌, ◌≤◌, ◌<◌}
 use native.Mathlib.Omega.{arith}
@@ -7,11 +9,16 @@ use native.Mathlib.Decide.{dec_lt}
 use lib.ListN.{length, get_or, set, length-set}
 use lib.Seq.{ext_get_or, get_or-set_same, get_or-set_other}
 use borrow.Author.Tests.{le-leb, lt-leb}
+use Rattle.refusal.specs.declared.Refusal.{Refusal}
+use Rattle.refusal.specs.Refusal.{number_of, answer_of}
+use Rattle.lists.specs.Needs.{answer_or}
 use Rattle.lists.specs.Lists.{table}
 use Rattle.lists.proofs.Laws.{length_table, get_table}
-use Rattle.flash.specs.Medium.{page_at}
+use Rattle.flash.specs.Medium.{most_blocks, page_at, views}
 use Rattle.state.specs.declared.State.{State}
-use Rattle.read.specs.Answers.{survey_refusal, survey_rows}
+use Rattle.state.specs.State.{meaning}
+use Rattle.readings.specs.Readings.{survey_of}
+use Rattle.read.proofs.Laws.{survey_number, survey_rows_are}
 use Rattle.c_answers.specs.Forms.{IsPage, most_counts, joined, SurveysInOne}
 
 -- ---- pages
@@ -47,6 +54,13 @@ joined_end rows xs i h t =
     ext_get_or 0 xs (table most_counts (λ k. get_or (get_or rows (k / 3) []) (k % 3) 0)) (t.long ∙ sym (length_table (λ k. get_or (get_or rows (k / 3) []) (k % 3) 0) 0 most_counts))
     (λ k l. t.so k (omega (arith, t.long)) ∙ sym (get_table (λ j. get_or (get_or rows (j / 3) []) (j % 3) 0) 0 most_counts k (omega (arith, t.long))))
 
-pub survey_tells : (m : List ℕ) (s : State) (n : ℕ) (rows : List (List ℕ)) (xs : List ℕ) → n ≡ survey_refusal m s → rows ≡ survey_rows m s → xs ≡ joined rows
+row_or : (r : Result (List (List ℕ)) Refusal) (d : List (List ℕ)) → unwrap_or r d ≡ answer_or (λ _. d) (answer_of r)
+unfolding answer_or
+row_or (Ok x) d = refl
+row_or (Err e) d = refl
+
+pub survey_tells : (m : List ℕ) (s : State) (r : Result (List (List ℕ)) Refusal) (n : ℕ) (rows : List (List ℕ)) (xs : List ℕ)
+    → answer_of r ≡ survey_of (length m) (views m) (meaning s) → n ≡ number_of r → rows ≡ unwrap_or r (replicate most_blocks (replicate 3 0)) → xs ≡ joined rows
     → SurveysInOne m s (record { number = n; counts = xs })
-survey_tells m s n rows xs e g z = rw (e, z, g)
+survey_tells m s r n rows xs e k g z =
+    rw (k, z, g, row_or r (replicate most_blocks (replicate 3 0)), survey_number m s r e, survey_rows_are m s r e)

@@ -2,7 +2,7 @@
 #![tactic(auto)]
 
 ghost use Rattle.std.specs.Prelude.{◌≡◌};
-ghost use Rattle.c_answers.specs.Forms.{IsPage, joined as Joined-of, SurveysInOne};
+ghost use Rattle.c_answers.specs.Forms.{IsPage, joined as joined_of, SurveysInOne};
 
 use state::State;
 
@@ -43,26 +43,22 @@ pub fn page_place(m: &[u8], p: usize) -> VjPart
 
 // Rows of three counts, one row after another.
 fn joined(rows: [[u16; 3]; flash::BLOCKS]) -> [u16; COUNTS]
-    ensures { result ≡ Joined-of rows }
+    ensures { result ≡ joined_of rows }
 {
     let mut all = [0u16; COUNTS];
-    let mut i: usize = 0;
-    while i < COUNTS {
-        let row = rows[i / 3];
-        all[i] = row[i % 3];
-        i += 1;
+    for i in 0..COUNTS {
+        all[i] = rows[i / 3][i % 3];
     }
     all
 }
 
 // The survey of the blocks, for a lent state.
-pub fn survey(m: &[u8], s: State) -> VjSurvey
-    ensures { SurveysInOne m.now s result }
+pub fn survey(m: &[u8], s: &State) -> VjSurvey
+    ensures { SurveysInOne m.now s.now result }
 {
-    let number = read::survey_refusal(m, s);
-    let counts = joined(read::survey(m, s));
+    let answer = read::survey(m, s);
     VjSurvey {
-        number: number,
-        counts: counts,
+        number: refusal::number_in(answer),
+        counts: joined(answer.unwrap_or([[0u16; 3]; flash::BLOCKS])),
     }
 }

@@ -1,18 +1,20 @@
 -- What a recorded cut leaves: the pattern's bits byte by byte, and a cut by what the step due did to a copy of the medium.
-use mathlib.Core.Path.{◌≡◌, refl, sym, ap, ◌∙◌, subst}
+use mathlib.Core.Path.{◌≡◌, refl, sym, ap, ◌∙◌}
 use mathlib.Core.Bool.{true, false}
 use mathlib.Core.List.{List, [], ◌∷◌, append-nil}
-use Prim.Native.Nat.{ℕ, zero, suc, ◌+◌, ◌-◌, ◌*◌, ◌/◌, ◌%◌, ◌^◌, ◌≤◌, ◌<◌, max}
-use native.Mathlib.Nat.{add-zero, zero-add}
+use Prim.Native.Nat.{ℕ, zero, suc, ◌+◌, ◌-◌, ◌*◌, ◌/◌, ◌%◌, ◌^◌, ◌≤◌, ◌<◌, max, min}
+use native.Mathlib.Nat.{add-zero}
 use native.Mathlib.Numerals.{add-one}
 use native.Mathlib.Omega.{arith}
+use native.Mathlib.Decide.{dec_le}
+use Rattle.std.proofs.Common.{◌⊎◌, inl, inr}
 use lib.Bits.{bit_or, or_step}
 use lib.ListN.{length, get_or, take, drop, set, length-take, length-drop, length-set, take-append-drop, drop_of_length-le}
 use lib.Seq.{drop-cons, drop-set-lt}
 use borrow.Author.Tests.{eq-eqb, ne_eqb}
 use Rattle.bits.proofs.Laws.{half_below}
 use Rattle.codec.specs.Codec.{put_at}
-use Rattle.codec.proofs.Put.{put_sets, Putting, put_start, put_next, list_end}
+use Rattle.codec.proofs.Put.{put_sets}
 use Rattle.cut_patterns.specs.Cuts.{raised, raised_bytes, raised_at}
 use Rattle.cut_patterns.specs.Struck.{most_bytes, struck, struck_after}
 
@@ -26,7 +28,7 @@ or_raised (suc k) x y h l =
     let f : bit_or (x / 2) (y / 2) * 2 + max (x % 2) (y % 2) ≡ max (x % 2) (y % 2) + 2 * bit_or (x / 2) (y / 2) = omega arith in
     or_step x y ∙ f ∙ ap (λ (z : ℕ). max (x % 2) (y % 2) + 2 * z) e
 
-pub bits_raised : (x y : ℕ) → x < 256 → y < 256 → bit_or x y ≡ raised 8 x y
+bits_raised : (x y : ℕ) → x < 256 → y < 256 → bit_or x y ≡ raised 8 x y
 bits_raised x y h l = or_raised 8 x y h l
 
 -- ---- bytes
@@ -84,7 +86,7 @@ pub raise_nowhere : (m : List ℕ) (at : ℕ) (pattern : List ℕ) → length m 
 raise_nowhere m at pattern h = sym (raised_past m at pattern h)
 
 module _ (m₀ : List ℕ) (at : ℕ) (pattern m : List ℕ) (i : ℕ) (r : Raising m₀ at pattern m i) where
-  pub raise_next : (x : ℕ) → i < length m₀ - at → i < length pattern → x ≡ raised 8 (get_or m (at + i) 0) (get_or pattern i 0) → Raising m₀ at pattern (set m (at + i) x) (i + 1)
+  raise_next : (x : ℕ) → i < length m₀ - at → i < length pattern → x ≡ raised 8 (get_or m (at + i) 0) (get_or pattern i 0) → Raising m₀ at pattern (set m (at + i) x) (i + 1)
   raise_next x h l e =
       let k = r.long in
       let f : at + (i + 1) ≡ suc (at + i) = omega arith in
@@ -94,35 +96,28 @@ module _ (m₀ : List ℕ) (at : ℕ) (pattern m : List ℕ) (i : ℕ) (r : Rais
         so = rw (f, add-one, e) (sym s ∙ ap (raised_at m (at + i)) (sym (drop-cons pattern i 0 l)) ∙ r.so);
       }
 
-  pub raise_over : length pattern ≤ i → m ≡ raised_at m₀ at pattern
+  -- as the code writes it
+  pub raise_or : i < min (length pattern) (length m₀ - at) → get_or m (at + i) 0 < 256 → get_or pattern i 0 < 256
+      → Raising m₀ at pattern (set m (at + i) (bit_or (get_or m (at + i) 0) (get_or pattern i 0))) (i + 1)
+  raise_or h a b = raise_next _ (omega arith) (omega arith) (bits_raised _ _ a b)
+
+  raise_over : length pattern ≤ i → m ≡ raised_at m₀ at pattern
   raise_over h = sym (raised_none m (at + i)) ∙ ap (raised_at m (at + i)) (sym (drop_of_length-le pattern {i = i} h)) ∙ r.so
 
-  pub raise_end : length m₀ - at ≤ i → m ≡ raised_at m₀ at pattern
-  raise_end h = let k = r.long in sym (raised_past m (at + i) (drop i pattern) (omega arith)) ∙ r.so
-
--- page and block
-pub page_nowhere : (m : List ℕ) (p : ℕ) (pattern : List ℕ) → length m ≤ p → m ≡ raised_at m (256 * p) pattern
-page_nowhere m p pattern h = raise_nowhere m (256 * p) pattern (omega arith)
-
-pub block_nowhere : (m : List ℕ) (b : ℕ) (pattern : List ℕ) → length m ≤ b → m ≡ raised_at m (4096 * b) pattern
-block_nowhere m b pattern h = raise_nowhere m (4096 * b) pattern (omega arith)
-
--- ---- a list copied to the front of another
-
-pub over_start : (to from : List ℕ) → Putting to 0 from to (0 + 0) (drop 0 from)
-over_start to from = put_start to 0 from
-
-module _ (to₀ from to : List ℕ) (i : ℕ) (p : Putting to₀ 0 from to (0 + i) (drop i from)) where
-  pub over_next : i < length from → Putting to₀ 0 from (set to i (get_or from i 0)) (0 + (i + 1)) (drop (i + 1) from)
-  over_next h =
-      let z : 0 + i ≡ i = zero-add i in
-      ap_at z (put_next to₀ 0 from to i (get_or from i 0) (drop (i + 1) from) (rw (drop-cons from i 0 h, ← add-one) at p))
+  pub raise_end : min (length pattern) (length m₀ - at) ≤ i → m ≡ raised_at m₀ at pattern
+  raise_end h = go (dec_le (length pattern) i)
     where
-      ap_at : 0 + i ≡ i → Putting to₀ 0 from (set to (0 + i) (get_or from i 0)) (0 + (i + 1)) (drop (i + 1) from) → Putting to₀ 0 from (set to i (get_or from i 0)) (0 + (i + 1)) (drop (i + 1) from)
-      ap_at e q = subst (λ (j : ℕ). Putting to₀ 0 from (set to j (get_or from i 0)) (0 + (i + 1)) (drop (i + 1) from)) e q
+      go : Dec (length pattern ≤ i) → m ≡ raised_at m₀ at pattern
+      go (yes l) = raise_over l
+      go (no l) = let k = r.long in sym (raised_past m (at + i) (drop i pattern) (omega arith)) ∙ r.so
 
-  pub over_end : length from ≤ length to₀ → length from ≤ i → to ≡ put_at to₀ 0 from
-  over_end l h = list_end to₀ 0 from to i (length from) refl h (omega arith) p
+-- in a page or a block
+pub raise_there : (m : List ℕ) (a n : ℕ) (pattern m' : List ℕ) → length m ≤ most_bytes → n ≡ min a 18446744073709551615 → m' ≡ raised_at m n pattern → m' ≡ raised_at m a pattern
+raise_there m a n pattern m' h e q = go (dec_le a 18446744073709551615)
+  where
+    go : Dec (a ≤ 18446744073709551615) → m' ≡ raised_at m a pattern
+    go (yes l) = let z : n ≡ a = omega arith in rw z at q
+    go (no l) = q ∙ raised_past m n pattern (omega arith) ∙ sym (raised_past m a pattern (omega arith))
 
 -- ---- what a cut leaves
 
@@ -134,13 +129,10 @@ module _ (m copy : List ℕ) (number touched at name : ℕ) (pattern : List ℕ)
 
   module _ (z : number ≡ 0) where
     module _ (t : touched ≡ 2) where
-      pub leave_low : name < 256 → struck false m ≡ struck_after m copy number touched at name pattern
+      pub leave_other : (name < 256) ⊎ ((256 ≤ name) × (name - 256 ≡ at → ⊥)) → struck false m ≡ struck_after m copy number touched at name pattern
       unfolding struck_after
-      leave_low h = rw (eq-eqb number 0 z, eq-eqb touched 2 t, ne_eqb name (256 + at) (λ q. omega arith))
-
-      pub leave_other : 256 ≤ name → (name - 256 ≡ at → ⊥) → struck false m ≡ struck_after m copy number touched at name pattern
-      unfolding struck_after
-      leave_other l h = rw (eq-eqb number 0 z, eq-eqb touched 2 t, ne_eqb name (256 + at) (λ q. h (omega arith)))
+      leave_other (inl h) = rw (eq-eqb number 0 z, eq-eqb touched 2 t, ne_eqb name (256 + at) (λ q. omega arith))
+      leave_other (inr h) = let f = h.1 in rw (eq-eqb number 0 z, eq-eqb touched 2 t, ne_eqb name (256 + at) (λ q. f (omega arith)))
 
       pub leave_block : (m' : List ℕ) → 256 ≤ name → name - 256 ≡ at → m' ≡ raised_at m (4096 * at) pattern → struck true m' ≡ struck_after m copy number touched at name pattern
       unfolding struck_after
@@ -151,7 +143,7 @@ module _ (m copy : List ℕ) (number touched at name : ℕ) (pattern : List ℕ)
       unfolding struck_after
       leave_another h = rw (eq-eqb number 0 z, ne_eqb touched 2 t, ne_eqb name at h)
 
-      pub leave_page : (c m' : List ℕ) → name ≡ at → length copy ≡ length m → c ≡ put_at m 0 copy → m' ≡ raised_at c (256 * at) pattern
+      pub leave_page : (c m' : List ℕ) → name ≡ at → c ≡ copy → m' ≡ raised_at c (256 * at) pattern
           → struck true m' ≡ struck_after m copy number touched at name pattern
       unfolding struck_after
-      leave_page c m' h l e f = rw (eq-eqb number 0 z, ne_eqb touched 2 t, eq-eqb name at h, f, e, put_all m copy l)
+      leave_page c m' h e f = rw (eq-eqb number 0 z, ne_eqb touched 2 t, eq-eqb name at h, f, e)

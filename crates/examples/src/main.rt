@@ -17,9 +17,7 @@ fn part(rt: &(impl Print + Eprint), name: &[u8], n: u64) {
 }
 
 // What a page is.
-fn class(rt: &(impl Print + Eprint), s: &[u8])
-    requires { length s.now ≡ 256 }
-{
+fn class(rt: &(impl Print + Eprint), s: &[u8; 256]) {
     if page::is_clean(s) {
         text(rt, b"clean\n");
         return;
@@ -36,10 +34,7 @@ fn class(rt: &(impl Print + Eprint), s: &[u8])
 }
 
 // The check of a page, and what the page is.
-fn about(rt: &(impl Print + Eprint), s: &[u8]) {
-    if s.len() != 256 {
-        return;
-    }
+fn about(rt: &(impl Print + Eprint), s: &[u8; 256]) {
     line(rt, b"check ", codec::le16(s, 0) as u64);
     line(rt, b"zero bits ", page::zero_count(s) as u64);
     class(rt, s);
@@ -54,14 +49,9 @@ fn hex(rt: &(impl Print + Eprint), x: u8) {
 }
 
 // The first nine bytes, a space before each.
-fn start(rt: &(impl Print + Eprint), s: &[u8]) {
-    if s.len() < 9 {
-        return;
-    }
-    let mut i: usize = 0;
-    while i < 9 {
-        hex(rt, s[i]);
-        i += 1;
+fn start(rt: &(impl Print + Eprint), s: &[u8; 256]) {
+    for x in &s[..9] {
+        hex(rt, *x);
     }
     text(rt, b"\n");
 }
@@ -70,9 +60,12 @@ fn start(rt: &(impl Print + Eprint), s: &[u8]) {
 fn base(rt: &(impl Print + Eprint)) {
     let mut m = [255u8; 16384];
     trials::play(&mut m, &[FORMATTED]);
+    let Some(s) = flash::page(&m, 0) else {
+        return;
+    };
     text(rt, b"empty base, serial 1:");
-    start(rt, flash::page(&m, 0));
-    about(rt, flash::page(&m, 0));
+    start(rt, s);
+    about(rt, s);
 }
 
 // Page p of what a list of calls leaves.
@@ -80,7 +73,9 @@ fn page_of(rt: &(impl Print + Eprint), name: &[u8], calls: &[u64], p: usize) {
     let mut m = [255u8; 16384];
     trials::play(&mut m, calls);
     text(rt, name);
-    about(rt, flash::page(&m, p));
+    if let Some(s) = flash::page(&m, p) {
+        about(rt, s);
+    }
 }
 
 // A node, which is page 1 of its medium, the node torn, and a blank page.
@@ -116,7 +111,10 @@ fn append_pages(rt: &(impl Print + Eprint), n: u64) {
 fn commit_pages(rt: &(impl Print + Eprint), low: u64, high: u64) {
     let mut m = [255u8; 16384];
     let t = trials::play(&mut m, &[FORMATTED, SET, low, 1, SET, high, 97, COMMITTED]);
-    print::number(rt, t.state.index.count as u64);
+    let Some(s) = t.state else {
+        return;
+    };
+    print::number(rt, s.index.count as u64);
     line(rt, b" valves: pages of a commit ", t.steps as u64);
 }
 
@@ -149,11 +147,8 @@ fn groups(rt: &(impl Print + Eprint)) {
 
 // Condition 1 for a medium of n bytes.
 fn rule_1(rt: &(impl Print + Eprint), name: &[u8], n: usize) {
-    if blocks::size_ok(n) {
-        print::answer(rt, name, 0);
-        return;
-    }
-    print::answer(rt, name, 1);
+    let number = if blocks::size_ok(n) { 0 } else { 1 };
+    print::answer(rt, name, number);
 }
 
 // The length of a medium in bytes.
@@ -167,31 +162,23 @@ fn lengths(rt: &(impl Print + Eprint)) {
 }
 
 // The page programmed last: it stands before the head's next.
-fn last_page(s: State) -> usize {
+fn last_page(last: Option<State>) -> usize {
+    let Some(s) = last else {
+        return 0;
+    };
     let h = s.head;
-    if 256 <= h.block {
-        return 0;
-    }
-    if 16 < h.next {
-        return 0;
-    }
-    if h.next < 1 {
+    if 256 <= h.block || 16 < h.next || h.next < 1 {
         return 0;
     }
     16 * h.block + (h.next - 1)
 }
 
 // The first block with the record that it was erased; 256 where none has it.
-fn erased_block(s: State) -> usize {
-    let erased = s.erased;
-    let mut b: usize = 0;
-    while b < 256 {
-        if erased[b] == 1 {
-            return b;
-        }
-        b += 1;
-    }
-    b
+fn erased_block(last: Option<State>) -> usize {
+    let Some(s) = last else {
+        return 256;
+    };
+    s.erased.iter().position(|x| *x == 1).unwrap_or(256)
 }
 
 // 30 entries, cut after their first page.
@@ -225,8 +212,11 @@ fn next_append(rt: &(impl Print + Eprint)) {
 fn available(rt: &(impl Print + Eprint)) {
     let mut m = [255u8; 16384];
     let t = trials::play(&mut m, &[FORMATTED]);
-    let r = read::available(&m, t.state);
-    part(rt, b"format of 4 blocks: ", r.pages as u64);
+    let Some(s) = t.state else {
+        return;
+    };
+    let pages = read::available(&m, &s).unwrap_or(0);
+    part(rt, b"format of 4 blocks: ", pages as u64);
     text(rt, b" available\n");
 }
 
@@ -234,7 +224,10 @@ fn available(rt: &(impl Print + Eprint)) {
 fn filled(rt: &(impl Print + Eprint)) {
     let mut m = [255u8; 16384];
     let t = trials::play(&mut m, &trials::groups());
-    let next = t.state.head.serial;
+    let Some(s) = t.state else {
+        return;
+    };
+    let next = s.head.serial;
     if 2 <= next {
         line(rt, b"one-page groups that pass: ", next - 2);
     }
@@ -242,17 +235,12 @@ fn filled(rt: &(impl Print + Eprint)) {
 }
 
 // The picker's choice.
-fn picked(rt: &(impl Print + Eprint), m: &[u8], s: State) {
-    let r = read::pick(m, s);
-    if r.number != 0 {
-        print::refused(rt, r.number);
-        return;
+fn picked(rt: &(impl Print + Eprint), m: &[u8], s: &State) {
+    match read::pick(m, s) {
+        Ok(Some(block)) => line(rt, b"the picker names block ", block),
+        Ok(None) => text(rt, b"the picker names none\n"),
+        Err(refusal) => print::refused(rt, refusal.number()),
     }
-    if r.found {
-        line(rt, b"the picker names block ", r.block);
-        return;
-    }
-    text(rt, b"the picker names none\n");
 }
 
 // A row of the survey.
@@ -263,11 +251,14 @@ fn row(rt: &(impl Print + Eprint), whole: u16, clean: u16, spoilt: u16) {
 }
 
 // The survey's row of block 0, and the picker's choice.
-fn first_block(rt: &(impl Print + Eprint), m: &[u8], s: State) {
-    let rows = read::survey(m, s);
+fn first_block(rt: &(impl Print + Eprint), m: &[u8], last: Option<State>) {
+    let Some(s) = last else {
+        return;
+    };
+    let rows = read::survey(m, &s).unwrap_or([[0u16; 3]; flash::BLOCKS]);
     let first = rows[0];
     row(rt, first[0], first[1], first[2]);
-    picked(rt, m, s);
+    picked(rt, m, &s);
 }
 
 // The document's sample, {5 to 1000, 7 to 20}, {remove 5}; then a recovery, which closes the head, a commit and the collection of block 0:
@@ -328,15 +319,13 @@ fn over(rt: &(impl Print + Eprint), number: u8) {
 // The log of such a medium through a log reader, its changes one by one.
 fn read_out(rt: &(impl Print + Eprint), m: &[u8]) {
     let mut c = log_reader::first(m);
-    let mut n: usize = 0;
-    while n < ANSWERS {
+    for _ in 0..ANSWERS {
         if !c.found {
             over(rt, c.next.number);
             return;
         }
         print::change(rt, c.group, c.key, c.word);
         c = log_reader::following(m, c.next);
-        n += 1;
     }
 }
 
@@ -417,9 +406,10 @@ fn flushes(rt: &(impl Print + Eprint)) {
 // The word of a valve, in the write buffer or in the medium.
 fn word<'a>(rt: &(impl Print + Eprint), m: &'a [u8], s: State, b: &'a [u8], valve: u16) {
     part(rt, b"valve ", valve as u64);
-    let w = word::word(m, s, b, valve);
+    let w = word::word(m, &s, b, valve);
     if w.len() < 8 {
-        print::answer(rt, b": ", word::word_refusal(m, s, b, valve));
+        let asked = word::place(m, &s, b, valve);
+        print::answer(rt, b": ", refusal::number_in(asked));
         return;
     }
     line(rt, b": ", codec::le64(w, 0));
@@ -437,23 +427,23 @@ fn words(rt: &(impl Print + Eprint)) {
         ],
     );
     text(rt, b"valves with a group buffered:\n");
-    word(rt, &m, t.state, &b, 5);
-    word(rt, &m, t.state, &b, 7);
-    word(rt, &m, t.state, &b, 8);
-    word(rt, &m, t.state, &b, 9);
+    let Some(s) = t.state else {
+        return;
+    };
+    for valve in [5, 7, 8, 9] {
+        word(rt, &m, s, &b, valve);
+    }
 }
 
 fn main(rt: HostRuntime) {
     base(&rt);
     pages(&rt);
-    append_pages(&rt, 24);
-    append_pages(&rt, 25);
-    append_pages(&rt, 96);
-    append_pages(&rt, 97);
-    commit_pages(&rt, 0, 0);
-    commit_pages(&rt, 24, 0);
-    commit_pages(&rt, 25, 0);
-    commit_pages(&rt, 96, 96);
+    for n in [24, 25, 96, 97] {
+        append_pages(&rt, n);
+    }
+    for (low, high) in [(0, 0), (24, 0), (25, 0), (96, 96)] {
+        commit_pages(&rt, low, high);
+    }
     groups(&rt);
     lengths(&rt);
     cut(&rt);

@@ -1,7 +1,7 @@
 -- What a faded medium shows was made, in that order: it is what the history of a moment shows, whose log is the last of the groups made by then.
 use mathlib.Core.Path.{◌≡◌, refl, sym, ap, ap₂, subst, ◌∙◌}
 use mathlib.Core.Logic.{◌⊎◌, inl, inr}
-use mathlib.Core.Option.{some}
+use Rattle.std.proofs.Common.{Some}
 use mathlib.Core.List.{List, [], ◌∷◌, ◌++◌, append-nil, append_assoc}
 use Prim.Native.Nat.{ℕ, zero, suc, ◌-◌}
 use lib.Dec.{ltb, eqb}
@@ -114,14 +114,14 @@ stands_cases y l (later i) f g = g i
 stands_here : {A : Type 0} (x y : A) (l : List A) → x ≡ y → StandsIn x (y ∷ l)
 stands_here x y l e = subst (λ z. StandsIn z (y ∷ l)) (sym e) first
 
-word_stands : (v : List View) (k a w : ℕ) (index settings : List Cell) → Words v index settings → StandsIn (cell k a) index → word_at v (cell k a) ≡ some w → StandsIn (cell k w) settings
+word_stands : (v : List View) (k a w : ℕ) (index settings : List Cell) → Words v index settings → StandsIn (cell k a) index → word_at v (cell k a) ≡ Some w → StandsIn (cell k w) settings
 word_stands v k a w index settings Words.end i e = elim i [ ]
 word_stands v k a w index settings (Words.more {k = k'} {a = a'} {w = w'} {index = places} {settings = rest} q r) i e =
     stands_cases (cell k' a') places i (λ z. found z) (λ j. later (word_stands v k a w places rest r j e))
   where
     found : cell k a ≡ cell k' a' → StandsIn (cell k w) (cell k' w' ∷ rest)
     found z =
-        let p : some w ≡ some w' = sym e ∙ ap (word_at v) z ∙ q in
+        let p : Some w ≡ Some w' = sym e ∙ ap (word_at v) z ∙ q in
         let s : w ≡ w' = cc in
         let t : k ≡ k' = ap (λ (c : Cell). c.key) z in
         stands_here (cell k w) (cell k' w') rest (ap₂ cell t s)

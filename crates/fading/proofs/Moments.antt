@@ -3,7 +3,7 @@
 use mathlib.Core.Path.{◌≡◌, refl, sym, ap, ◌∙◌}
 use mathlib.Core.Logic.{◌⊎◌, inl, inr}
 use mathlib.Core.Bool.{Bool, true, false, cond}
-use mathlib.Core.Option.{Option, none, some}
+use Rattle.std.proofs.Common.{Option, None, Some}
 use mathlib.Core.List.{List, ◌∷◌}
 use Prim.Native.Nat.{ℕ, zero, suc, ◌+◌, ◌*◌, ◌≤◌, ◌<◌}
 use native.Mathlib.Omega.{arith}
@@ -59,7 +59,7 @@ cut_from v w other a n c q y e = go (dec_lt q a) (dec_lt q (a + n))
     go (no h) (no k) = inl (sym (c.outside q (inr (omega arith))) ∙ e)
     go (no h) (yes k) = inr (turned_from (seen other q) (seen w q) y (c.inside q (omega arith) k) e)
 
-module _ (m : List ℕ) (s : Held) (bs : List ℕ) (h : History) (U : Upheld (world m (some s) bs) h) where
+module _ (m : List ℕ) (s : Held) (bs : List ℕ) (h : History) (U : Upheld (world m (Some s) bs) h) where
   -- a page programmed
   module _ (p : ℕ) (pg : Page) (s' : Held) (P : Programs (views m) s bs h p pg s') where
     in_medium : 256 * p + 256 ≤ length m
@@ -129,13 +129,13 @@ module _ (m : List ℕ) (s : Held) (bs : List ℕ) (h : History) (U : Upheld (wo
         let k = cut_erase_views m b left block_there U.guarded c in
         record { size = unfold CutErase in c.size; pages = lost_from left k; never_falls = same_serial left k }
 
-  step_change : (st : Answer Step) → Good (views m) s bs h st → KeepsHead s st → PageChange m (stepped (world m (some s) bs) st).after.medium
+  step_change : (st : Answer Step) → Good (views m) s bs h st → KeepsHead s st → PageChange m (stepped (world m (Some s) bs) st).after.medium
   unfolding stepped medium_after Good KeepsHead
   step_change (refused n) G k = no_change m m refl
   step_change (gives (Step.program p pg s' finished)) G k = program_change p pg s' G
   step_change (gives (Step.erase b s' finished)) G k = erase_change b s' G k
 
-  cut_change : (st : Answer Step) → Good (views m) s bs h st → KeepsHead s st → (left : List ℕ) → CutOf m st left → PageChange m (cut_short (world m (some s) bs) left st).after.medium
+  cut_change : (st : Answer Step) → Good (views m) s bs h st → KeepsHead s st → (left : List ℕ) → CutOf m st left → PageChange m (cut_short (world m (Some s) bs) left st).after.medium
   unfolding cut_short CutOf Good KeepsHead
   cut_change (refused n) G k left c = no_change m m refl
   cut_change (gives (Step.program p pg s' finished)) G k left c = cut_program_change p pg s' G left c
@@ -159,24 +159,24 @@ filled_medium w t (gives b) = refl
 
 pub happen_change : (m : List ℕ) (s : Option Held) (bs : List ℕ) (h : History) (e : Event (world m s bs)) → Upheld (world m s bs) h → PageChange m (happen (world m s bs) e).after.medium
 unfolding happen with_state step_due
-happen_change m none bs h (Event.append ks ws a b) U = no_change m m refl
-happen_change m (some s) bs h (Event.append ks ws a b) U = no_change m _ (called_medium (world m (some s) bs) _ _)
-happen_change m none bs h Event.commit U = no_change m m refl
-happen_change m (some s) bs h Event.commit U = no_change m _ (called_medium (world m (some s) bs) _ _)
-happen_change m none bs h (Event.collect b) U = no_change m m refl
-happen_change m (some s) bs h (Event.collect b) U = no_change m _ (called_medium (world m (some s) bs) _ _)
-happen_change m none bs h (Event.buffer ks ws a b) U = no_change m m refl
-happen_change m (some s) bs h (Event.buffer ks ws a b) U = no_change m _ (filled_medium (world m (some s) bs) _ _)
-happen_change m none bs h Event.flush U = no_change m m refl
-happen_change m (some s) bs h Event.flush U = no_change m _ (called_medium (world m (some s) bs) _ _)
-happen_change m none bs h Event.step U = unfold stepped in no_change m m refl
-happen_change m (some s) bs h Event.step U =
+happen_change m None bs h (Event.append ks ws a b) U = no_change m m refl
+happen_change m (Some s) bs h (Event.append ks ws a b) U = no_change m _ (called_medium (world m (Some s) bs) _ _)
+happen_change m None bs h Event.commit U = no_change m m refl
+happen_change m (Some s) bs h Event.commit U = no_change m _ (called_medium (world m (Some s) bs) _ _)
+happen_change m None bs h (Event.collect b) U = no_change m m refl
+happen_change m (Some s) bs h (Event.collect b) U = no_change m _ (called_medium (world m (Some s) bs) _ _)
+happen_change m None bs h (Event.buffer ks ws a b) U = no_change m m refl
+happen_change m (Some s) bs h (Event.buffer ks ws a b) U = no_change m _ (filled_medium (world m (Some s) bs) _ _)
+happen_change m None bs h Event.flush U = no_change m m refl
+happen_change m (Some s) bs h Event.flush U = no_change m _ (called_medium (world m (Some s) bs) _ _)
+happen_change m None bs h Event.step U = unfold stepped in no_change m m refl
+happen_change m (Some s) bs h Event.step U =
     step_change m s bs h U (step_of (length m) (views m) s bs) (due_good m s bs h U) (unfold step_of in step_keeps _ (views m) s (buffered_in bs))
 happen_change m s bs h Event.recover U = no_change m _ (recovered_medium (world m s bs) _)
 happen_change m s bs h Event.read U = no_change m m refl
 happen_change m s bs h Event.cut U = no_change m m refl
-happen_change m none bs h (Event.cut_inside left c) U = absurd (unfold CutOf in c)
-happen_change m (some s) bs h (Event.cut_inside left c) U =
+happen_change m None bs h (Event.cut_inside left c) U = absurd (unfold CutOf in c)
+happen_change m (Some s) bs h (Event.cut_inside left c) U =
     cut_change m s bs h U (step_of (length m) (views m) s bs) (due_good m s bs h U) (unfold step_of in step_keeps _ (views m) s (buffered_in bs)) left c
 
 -- and so an event of the program before Paper 8
@@ -184,18 +184,18 @@ happened_change : (m : List ℕ) (s : Option Held) (bs : List ℕ) (h : History)
     → PageChange m (happened (world m s bs) e).after.medium
 unfolding happened with_state step_due_before
 happened_change m s bs h (Earlier.same e) U = happen_change m s bs h e U
-happened_change m none bs h (Earlier.append ks ws a b) U = no_change m m refl
-happened_change m (some s) bs h (Earlier.append ks ws a b) U = no_change m _ (called_medium (world m (some s) bs) _ _)
-happened_change m none bs h (Earlier.buffer ks ws a b) U = no_change m m refl
-happened_change m (some s) bs h (Earlier.buffer ks ws a b) U = no_change m _ (filled_medium (world m (some s) bs) _ _)
-happened_change m none bs h Earlier.flush U = no_change m m refl
-happened_change m (some s) bs h Earlier.flush U = no_change m _ (called_medium (world m (some s) bs) _ _)
-happened_change m none bs h Earlier.step U = unfold stepped in no_change m m refl
-happened_change m (some s) bs h Earlier.step U =
+happened_change m None bs h (Earlier.append ks ws a b) U = no_change m m refl
+happened_change m (Some s) bs h (Earlier.append ks ws a b) U = no_change m _ (called_medium (world m (Some s) bs) _ _)
+happened_change m None bs h (Earlier.buffer ks ws a b) U = no_change m m refl
+happened_change m (Some s) bs h (Earlier.buffer ks ws a b) U = no_change m _ (filled_medium (world m (Some s) bs) _ _)
+happened_change m None bs h Earlier.flush U = no_change m m refl
+happened_change m (Some s) bs h Earlier.flush U = no_change m _ (called_medium (world m (Some s) bs) _ _)
+happened_change m None bs h Earlier.step U = unfold stepped in no_change m m refl
+happened_change m (Some s) bs h Earlier.step U =
     step_change m s bs h U (step_before (length m) (views m) s bs) (due_before m s bs h U)
     (unfold step_before in step_keeps _ (views m) s (buffered_in bs))
-happened_change m none bs h (Earlier.cut_inside left c) U = absurd (unfold CutOf in c)
-happened_change m (some s) bs h (Earlier.cut_inside left c) U =
+happened_change m None bs h (Earlier.cut_inside left c) U = absurd (unfold CutOf in c)
+happened_change m (Some s) bs h (Earlier.cut_inside left c) U =
     cut_change m s bs h U (step_before (length m) (views m) s bs) (due_before m s bs h U)
     (unfold step_before in step_keeps _ (views m) s (buffered_in bs)) left c
 
@@ -220,14 +220,14 @@ page_told recovery = false
 abbrev Risen : List ℕ → Told → List ℕ → Type 0
 Risen m t u = page_told t ≡ true → next_serial (views m) < next_serial (views u)
 
-module _ (m : List ℕ) (s : Held) (bs : List ℕ) (h : History) (U : Upheld (world m (some s) bs) h) where
+module _ (m : List ℕ) (s : Held) (bs : List ℕ) (h : History) (U : Upheld (world m (Some s) bs) h) where
   program_risen : (p : ℕ) (pg : Page) (s' : Held) → Programs (views m) s bs h p pg s' → next_serial (views m) < next_serial (views (programmed m p pg))
   program_risen p pg s' P =
       let i : seen (views (programmed m p pg)) p ≡ whole pg =
       rw (program_views m p pg (in_medium m s bs h U p pg s' P) P.fits_in) (seen_set (views m) p (whole pg) (clean_in (views m) p P.cleans)) in
       omega (arith, next_serial_lem m s bs h U p pg s' P, below_next (views (programmed m p pg)) p pg i)
 
-  step_risen : (st : Answer Step) → Good (views m) s bs h st → Risen m (stepped (world m (some s) bs) st).told (stepped (world m (some s) bs) st).after.medium
+  step_risen : (st : Answer Step) → Good (views m) s bs h st → Risen m (stepped (world m (Some s) bs) st).told (stepped (world m (Some s) bs) st).after.medium
   unfolding stepped medium_after Good page_told
   step_risen (refused n) G = λ e. true_false e refl
   step_risen (gives (Step.program p pg s' finished)) G = λ e. program_risen p pg s' G
@@ -239,7 +239,7 @@ module _ (m : List ℕ) (s : Held) (bs : List ℕ) (h : History) (U : Upheld (wo
   cut_program_risen p pg s' P left true q e = rw (same_true left (programmed m p pg) q) (program_risen p pg s' P)
   cut_program_risen p pg s' P left false q e = true_false e refl
 
-  cut_risen : (st : Answer Step) → Good (views m) s bs h st → (left : List ℕ) → Risen m (cut_short (world m (some s) bs) left st).told (cut_short (world m (some s) bs) left st).after.medium
+  cut_risen : (st : Answer Step) → Good (views m) s bs h st → (left : List ℕ) → Risen m (cut_short (world m (Some s) bs) left st).told (cut_short (world m (Some s) bs) left st).after.medium
   unfolding cut_short Good
   cut_risen (refused n) G left = unfold page_told in (λ e. true_false e refl)
   cut_risen (gives (Step.program p pg s' finished)) G left = cut_program_risen p pg s' G left (same_bytes left (programmed m p pg)) refl
@@ -263,40 +263,40 @@ recovered_risen w (gives r) = λ e. true_false e refl
 pub happen_risen : (m : List ℕ) (s : Option Held) (bs : List ℕ) (h : History) (e : Event (world m s bs)) → Upheld (world m s bs) h
     → Risen m (happen (world m s bs) e).told (happen (world m s bs) e).after.medium
 unfolding happen with_state step_due page_told
-happen_risen m none bs h (Event.append ks ws a b) U = λ e. true_false e refl
-happen_risen m (some s) bs h (Event.append ks ws a b) U = called_risen (world m (some s) bs) _ _ refl
-happen_risen m none bs h Event.commit U = λ e. true_false e refl
-happen_risen m (some s) bs h Event.commit U = called_risen (world m (some s) bs) _ _ refl
-happen_risen m none bs h (Event.collect b) U = λ e. true_false e refl
-happen_risen m (some s) bs h (Event.collect b) U = called_risen (world m (some s) bs) _ _ refl
-happen_risen m none bs h (Event.buffer ks ws a b) U = λ e. true_false e refl
-happen_risen m (some s) bs h (Event.buffer ks ws a b) U = filled_risen (world m (some s) bs) _ _ refl
-happen_risen m none bs h Event.flush U = λ e. true_false e refl
-happen_risen m (some s) bs h Event.flush U = called_risen (world m (some s) bs) _ _ refl
-happen_risen m none bs h Event.step U = unfold stepped in (λ e. true_false e refl)
-happen_risen m (some s) bs h Event.step U = step_risen m s bs h U (step_of (length m) (views m) s bs) (due_good m s bs h U)
+happen_risen m None bs h (Event.append ks ws a b) U = λ e. true_false e refl
+happen_risen m (Some s) bs h (Event.append ks ws a b) U = called_risen (world m (Some s) bs) _ _ refl
+happen_risen m None bs h Event.commit U = λ e. true_false e refl
+happen_risen m (Some s) bs h Event.commit U = called_risen (world m (Some s) bs) _ _ refl
+happen_risen m None bs h (Event.collect b) U = λ e. true_false e refl
+happen_risen m (Some s) bs h (Event.collect b) U = called_risen (world m (Some s) bs) _ _ refl
+happen_risen m None bs h (Event.buffer ks ws a b) U = λ e. true_false e refl
+happen_risen m (Some s) bs h (Event.buffer ks ws a b) U = filled_risen (world m (Some s) bs) _ _ refl
+happen_risen m None bs h Event.flush U = λ e. true_false e refl
+happen_risen m (Some s) bs h Event.flush U = called_risen (world m (Some s) bs) _ _ refl
+happen_risen m None bs h Event.step U = unfold stepped in (λ e. true_false e refl)
+happen_risen m (Some s) bs h Event.step U = step_risen m s bs h U (step_of (length m) (views m) s bs) (due_good m s bs h U)
 happen_risen m s bs h Event.recover U = recovered_risen (world m s bs) _
 happen_risen m s bs h Event.read U = λ e. true_false e refl
 happen_risen m s bs h Event.cut U = λ e. true_false e refl
-happen_risen m none bs h (Event.cut_inside left c) U = absurd (unfold CutOf in c)
-happen_risen m (some s) bs h (Event.cut_inside left c) U = cut_risen m s bs h U (step_of (length m) (views m) s bs) (due_good m s bs h U) left
+happen_risen m None bs h (Event.cut_inside left c) U = absurd (unfold CutOf in c)
+happen_risen m (Some s) bs h (Event.cut_inside left c) U = cut_risen m s bs h U (step_of (length m) (views m) s bs) (due_good m s bs h U) left
 
 -- the same of the program as it was before Paper 8
 happened_risen : (m : List ℕ) (s : Option Held) (bs : List ℕ) (h : History) (e : Earlier (world m s bs)) → Upheld (world m s bs) h
     → Risen m (happened (world m s bs) e).told (happened (world m s bs) e).after.medium
 unfolding happened with_state step_due_before page_told
 happened_risen m s bs h (Earlier.same e) U = happen_risen m s bs h e U
-happened_risen m none bs h (Earlier.append ks ws a b) U = λ e. true_false e refl
-happened_risen m (some s) bs h (Earlier.append ks ws a b) U = called_risen (world m (some s) bs) _ _ refl
-happened_risen m none bs h (Earlier.buffer ks ws a b) U = λ e. true_false e refl
-happened_risen m (some s) bs h (Earlier.buffer ks ws a b) U = filled_risen (world m (some s) bs) _ _ refl
-happened_risen m none bs h Earlier.flush U = λ e. true_false e refl
-happened_risen m (some s) bs h Earlier.flush U = called_risen (world m (some s) bs) _ _ refl
-happened_risen m none bs h Earlier.step U = unfold stepped in (λ e. true_false e refl)
-happened_risen m (some s) bs h Earlier.step U =
+happened_risen m None bs h (Earlier.append ks ws a b) U = λ e. true_false e refl
+happened_risen m (Some s) bs h (Earlier.append ks ws a b) U = called_risen (world m (Some s) bs) _ _ refl
+happened_risen m None bs h (Earlier.buffer ks ws a b) U = λ e. true_false e refl
+happened_risen m (Some s) bs h (Earlier.buffer ks ws a b) U = filled_risen (world m (Some s) bs) _ _ refl
+happened_risen m None bs h Earlier.flush U = λ e. true_false e refl
+happened_risen m (Some s) bs h Earlier.flush U = called_risen (world m (Some s) bs) _ _ refl
+happened_risen m None bs h Earlier.step U = unfold stepped in (λ e. true_false e refl)
+happened_risen m (Some s) bs h Earlier.step U =
     step_risen m s bs h U (step_before (length m) (views m) s bs) (due_before m s bs h U)
-happened_risen m none bs h (Earlier.cut_inside left c) U = absurd (unfold CutOf in c)
-happened_risen m (some s) bs h (Earlier.cut_inside left c) U =
+happened_risen m None bs h (Earlier.cut_inside left c) U = absurd (unfold CutOf in c)
+happened_risen m (Some s) bs h (Earlier.cut_inside left c) U =
     cut_risen m s bs h U (step_before (length m) (views m) s bs) (due_before m s bs h U) left
 
 pub risen_before : (w : World) (h : History) (e : Earlier w) → Before w h

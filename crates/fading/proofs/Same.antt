@@ -1,7 +1,7 @@
 -- A medium that recovery accepts, whose whole pages all stand in a sound one, with the same greatest serial: recovery gives the same of both.
 use mathlib.Core.Path.{◌≡◌, refl, sym, ap, ◌∙◌}
 use mathlib.Core.Bool.{true, false}
-use mathlib.Core.Option.{Option, none, some}
+use Rattle.std.proofs.Common.{Option, None, Some}
 use mathlib.Core.List.{List, [], ◌∷◌, ◌++◌}
 use Prim.Native.Nat.{ℕ, suc, ◌+◌, ◌-◌, ◌/◌, ◌%◌, ◌≤◌, ◌<◌}
 use native.Mathlib.Omega.{arith}
@@ -30,7 +30,7 @@ use Rattle.fading.proofs.Standing.{AllStand, standing_sort, standing_from, stand
 
 pub record Accepted (v : List View) : Type 0 where
   pub lawfuls : all_lawful (wholes 0 v) ≡ true
-  pub based : base_of (sort (wholes 0 v)) ≡ some (base v)
+  pub based : base_of (sort (wholes 0 v)) ≡ Some (base v)
   pub rises : consecutive (base v) (chain v) ≡ true
   pub sounds : sound v (value_or [] (replayed v)) ≡ true
 
@@ -44,9 +44,9 @@ accepted n v e =
       sounds = and_r (is_some (replayed v)) (sound v (value_or [] (replayed v))) (every_at 5 _ e);
     }
   where
-    has : (o : Option ℕ) → is_some o ≡ true → o ≡ some (value_or 0 o)
-    has none h = true_false h (unfold is_some in refl)
-    has (some b) h = unfold value_or in refl
+    has : (o : Option ℕ) → is_some o ≡ true → o ≡ Some (value_or 0 o)
+    has None h = true_false h (unfold is_some in refl)
+    has (Some b) h = unfold value_or in refl
 
 pub recovers : (n : ℕ) (v : List View) → every (tests (recover_needs n v)) ≡ true → recover n v ≡ gives (recovery_with (log_of (value_or [] (groups v))) (recovered_state v))
 unfolding recover
@@ -118,7 +118,7 @@ words_within u v l s w f (Words.more {k = k} {a = a} {index = index} {settings =
 
 -- ---- two chains that end with the same serial
 
-pub some_page : (l : List Placed) (b : ℕ) → base_of l ≡ some b → 1 ≤ length l
+pub some_page : (l : List Placed) (b : ℕ) → base_of l ≡ Some b → 1 ≤ length l
 unfolding base_of
 some_page [] b e = let z : ◌≡◌ {A = ℕ} 0 1 = cc in absurd (omega arith)
 some_page (x ∷ l) b e = omega arith
@@ -126,7 +126,7 @@ some_page (x ∷ l) b e = omega arith
 -- the one that begins earlier has the other at its end, so that the base, which is the last, is the same
 same_base : (v : List View) (a c : ℕ) (l m : List Placed) → distinct (wholes 0 v) ≡ true
     → a ≤ c → a + length l ≡ c + length m → consecutive a l ≡ true → consecutive c m ≡ true → AllStand v l → AllStand v m
-    → base_of l ≡ some a → base_of m ≡ some c → a ≡ c
+    → base_of l ≡ Some a → base_of m ≡ Some c → a ≡ c
 same_base v a c l m d h n p q f g x y =
     let many = some_page m c y in
     let z : a + (c - a) ≡ c = omega arith in
@@ -135,7 +135,7 @@ same_base v a c l m d h n p q f g x y =
     let k : a + length (take (c - a) l) ≡ c = omega arith in
     let e : drop (c - a) l ≡ m = run_same v c (drop (c - a) l) m d (rw k at r) q (omega (arith, length-drop (c - a) l)) (standing_drop (c - a) l f) g in
     let i : l ≡ take (c - a) l ++ m = sym (take-append-drop (c - a) l) ∙ ap (λ (o : List Placed). take (c - a) l ++ o) e in
-    let j : some a ≡ some c = sym x ∙ ap base_of i ∙ base_append (take (c - a) l) m c y in
+    let j : Some a ≡ Some c = sym x ∙ ap base_of i ∙ base_append (take (c - a) l) m c y in
     cc
 
 last_any : (d d' : Placed) (l : List Placed) → 1 ≤ length l → last_of d l ≡ last_of d' l
@@ -152,7 +152,7 @@ module _ {v : List View} {log : List (List Entry)} {settings : List Setting} {b 
   chained : sort (from (base u) (wholes 0 u)) ≡ chain u
   chained = unfold chain in sym (from_sort (base u) (wholes 0 u))
 
-  based : base_of (chain u) ≡ some (base u)
+  based : base_of (chain u) ≡ Some (base u)
   based =
       base_right (base u) (sort (upto (base u) (wholes 0 u))) (chain u)
       (all_sort (opposite (reaches (base u))) (upto (base u) (wholes 0 u)) (unfold upto in all_keep (opposite (reaches (base u))) (wholes 0 u)))
@@ -180,11 +180,11 @@ module _ {v : List View} {log : List (List Entry)} {settings : List Setting} {b 
   chain_same : chain u ≡ ch
   chain_same = let n = sizes in let e = base_same in run_same v b (chain u) ch S.distincts (rw e at A.rises) S.rises (omega arith) theirs ours
 
-  groups_same : groups u ≡ some gs
+  groups_same : groups u ≡ Some gs
   unfolding groups
   groups_same = rw chain_same S.walks
 
-  replayed_same : replayed u ≡ some idx
+  replayed_same : replayed u ≡ Some idx
   unfolding replayed value_or
   replayed_same = rw groups_same S.replays
 

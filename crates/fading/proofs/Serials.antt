@@ -1,7 +1,7 @@
 -- What the steps do to the next serial: an erase leaves the head of the state, and a page put where one was clean takes none away.
 use mathlib.Core.Path.{◌≡◌, refl, sym, ◌∙◌}
 use mathlib.Core.Bool.{Bool}
-use mathlib.Core.Option.{some}
+use Rattle.std.proofs.Common.{Some}
 use mathlib.Core.List.{List, [], ◌∷◌}
 use Prim.Native.Nat.{ℕ, ◌≤◌}
 use native.Mathlib.Decide.{ℕ_discrete}
@@ -66,7 +66,7 @@ step_keeps cs v s gs =
 -- ---- the next serial
 
 -- that of a state is the medium's
-pub serial_of_lem : {v : List View} {s : Held} {h : History} → Coupled v (some s) h → s.head.serial ≡ next_serial v
+pub serial_of_lem : {v : List View} {s : Held} {h : History} → Coupled v (Some s) h → s.head.serial ≡ next_serial v
 serial_of_lem {v} c = (alive_of c.memory).serials ∙ sym (greatest c.medium) ∙ sym (next_is v)
 
 -- where page p was clean, and every other page is as it was

@@ -2,7 +2,7 @@
 use mathlib.Core.Path.{◌≡◌, refl, sym, ap, ap₂, ◌∙◌}
 use mathlib.Core.Logic.{inl, inr}
 use mathlib.Core.Bool.{Bool, true, false, cond}
-use mathlib.Core.Option.{Option, none, some}
+use Rattle.std.proofs.Common.{Option, None, Some}
 use mathlib.Core.List.{List, [], ◌∷◌, ◌++◌}
 use Prim.Native.Nat.{ℕ, zero, suc, ◌+◌, ◌≤◌, ◌<◌}
 use native.Mathlib.Omega.{arith}
@@ -259,20 +259,20 @@ lawful_within u v w a = all_pages (λ x. lawful x.page) u (λ q y e. at_page (λ
 
 -- ---- the base
 
-some_is : (a b : ℕ) → some a ≡ some b → a ≡ b
+some_is : (a b : ℕ) → Some a ≡ Some b → a ≡ b
 some_is a b e = cc
 
 -- pages before the base's first do not matter
-base_past : (x : Placed) (l : List Placed) (b : ℕ) → serial_of x < b → base_of (x ∷ l) ≡ some b → base_of l ≡ some b
+base_past : (x : Placed) (l : List Placed) (b : ℕ) → serial_of x < b → base_of (x ∷ l) ≡ Some b → base_of l ≡ Some b
 unfolding base_of is_some
 base_past x l b h e = go (base_of l) (starts_group 2 (x ∷ l)) e
   where
-    go : (o : Option ℕ) (g : Bool) → cond (is_some o) o (cond g (some (serial_of x)) none) ≡ some b → o ≡ some b
-    go (some c) g k = k
-    go none true k = let z = some_is (serial_of x) b k in absurd (omega arith)
-    go none false k = k
+    go : (o : Option ℕ) (g : Bool) → cond (is_some o) o (cond g (Some (serial_of x)) None) ≡ Some b → o ≡ Some b
+    go (Some c) g k = k
+    go None true k = let z = some_is (serial_of x) b k in absurd (omega arith)
+    go None false k = k
 
-pub base_right : (b : ℕ) (l r : List Placed) → all (opposite (reaches b)) l ≡ true → base_of (l ++ r) ≡ some b → base_of r ≡ some b
+pub base_right : (b : ℕ) (l r : List Placed) → all (opposite (reaches b)) l ≡ true → base_of (l ++ r) ≡ Some b → base_of r ≡ Some b
 base_right b [] r p e = e
 base_right b (x ∷ l) r p e =
     let h : serial_of x < b = not_reached b x (all_head (opposite (reaches b)) x l p) in

@@ -2,7 +2,7 @@
 use mathlib.Core.Path.{◌≡◌, refl, sym, ap, subst, ◌∙◌}
 use mathlib.Core.Logic.{◌⊎◌, inl, inr}
 use mathlib.Core.Bool.{Bool, true}
-use mathlib.Core.Option.{Option, none, some}
+use Rattle.std.proofs.Common.{Option, None, Some}
 use mathlib.Core.List.{List, [], ◌∷◌}
 use Prim.Native.Nat.{ℕ, zero, suc, ◌+◌, ◌-◌, ◌*◌, ◌/◌, ◌≤◌, ◌<◌}
 use native.Mathlib.Omega.{arith}
@@ -210,8 +210,8 @@ unprogrammed m p pg there few c bs =
         inl (ap (bit j) (rw k at g) ∙ one j l)
 
 -- the step due, where it programs a page
-due_programs : (m : List ℕ) (t : Held) (bs : List ℕ) (h : History) → Upheld (world m (some t) bs) h → (p : ℕ) (pg : Page) (s : Held) (finished : Bool)
-    → step_due (world m (some t) bs) ≡ gives (Step.program p pg s finished) → Programs (views m) t bs h p pg s
+due_programs : (m : List ℕ) (t : Held) (bs : List ℕ) (h : History) → Upheld (world m (Some t) bs) h → (p : ℕ) (pg : Page) (s : Held) (finished : Bool)
+    → step_due (world m (Some t) bs) ≡ gives (Step.program p pg s finished) → Programs (views m) t bs h p pg s
 due_programs m t bs h U p pg s finished e = good (rw due at (due_good m t bs h U))
   where
     due : step_of (length m) (views m) t bs ≡ gives (Step.program p pg s finished)
@@ -220,7 +220,7 @@ due_programs m t bs h U p pg s finished e = good (rw due at (due_good m t bs h U
     good : Good (views m) t bs h (gives (Step.program p pg s finished)) → Programs (views m) t bs h p pg s
     good G = unfold Good in G
 
-no_state_lem : {P : Type 0} (m bs : List ℕ) (x : Step) → step_due (world m none bs) ≡ gives x → P
+no_state_lem : {P : Type 0} (m bs : List ℕ) (x : Step) → step_due (world m None bs) ≡ gives x → P
 unfolding step_due with_state
 no_state_lem m bs x e = let z : ◌≡◌ {A = ℕ} 0 1 = cc in absurd (omega arith)
 
@@ -243,13 +243,13 @@ as_cut_program m₀ p pg there few m f G =
 gone : (m₀ : List ℕ) (o : Option Held) (bs : List ℕ) (h : History) → Reached (world m₀ o bs) h → (p : ℕ) (pg : Page) (s : Held) (finished : Bool)
     → step_due (world m₀ o bs) ≡ gives (Step.program p pg s finished) → (m : List ℕ) → Faded (programmed m₀ p pg) m → OnlyPageGone (programmed m₀ p pg) m p → AsThen m m₀ h
 unfolding CutProgram
-gone m₀ none bs h r p pg s finished e m f G = no_state_lem m₀ bs _ e
-gone m₀ (some t) bs h r p pg s finished e m f G =
-    shows_today (world m₀ (some t) bs) h r m c.size (to_within (views m) (views m₀) (λ q y k. back q y k (ℕ_discrete q p))) (λ q y k b. onward q y k (ℕ_discrete q p))
+gone m₀ None bs h r p pg s finished e m f G = no_state_lem m₀ bs _ e
+gone m₀ (Some t) bs h r p pg s finished e m f G =
+    shows_today (world m₀ (Some t) bs) h r m c.size (to_within (views m) (views m₀) (λ q y k. back q y k (ℕ_discrete q p))) (λ q y k b. onward q y k (ℕ_discrete q p))
     (sound_keep (views m₀) (views m) K.coupled.idx (one_keeps (views m₀) (views m) p P.cleans other) K.coupled.medium.sounds)
   where
-    K : Upheld (world m₀ (some t) bs) h
-    K = reached_upheld (world m₀ (some t) bs) h r
+    K : Upheld (world m₀ (Some t) bs) h
+    K = reached_upheld (world m₀ (Some t) bs) h r
 
     P : Programs (views m₀) t bs h p pg s
     P = due_programs m₀ t bs h K p pg s finished e
@@ -276,8 +276,8 @@ newest_gone w h r p pg s finished e m f G =
 
 go_back : (m : List ℕ) (o : Option Held) (bs : List ℕ) (h : History) → Upheld (world m o bs) h → (p : ℕ) (pg : Page) (s : Held) (finished : Bool)
     → step_due (world m o bs) ≡ gives (Step.program p pg s finished) → Faded (programmed m p pg) m
-go_back m none bs h U p pg s finished e = no_state_lem m bs _ e
-go_back m (some t) bs h U p pg s finished e =
+go_back m None bs h U p pg s finished e = no_state_lem m bs _ e
+go_back m (Some t) bs h U p pg s finished e =
     let P = due_programs m t bs h U p pg s finished e in
     unprogrammed m p pg (there m t bs h U p pg s P) P.fits_in.count (clean_is (seen (views m) p) P.cleans) U.guarded.bytes
 

@@ -1,7 +1,7 @@
 -- Paper 14: "It never shows a change that was not made, or an order that did not occur." Said of all the groups that have counted since formatting
 -- ended, in the order in which they counted, with no word of moments.
 use Rattle.std.specs.Prelude.{◌≡◌, List, [], ◌∷◌, ◌++◌, ℕ, length}
-use Rattle.std.proofs.Math.Option.{some}
+use Rattle.std.specs.Prelude.{Some}
 use Rattle.lists.specs.Needs.{gives}
 use Rattle.lists.specs.Cells.{cell, Entry}
 use Rattle.page.specs.Pages.{changes_of}
@@ -44,7 +44,7 @@ pub record ChangeMade (made : List (List Entry)) (e : Entry) : Type 0 where
 -- each change of the log was made, and of each valve of the index the word at its address was set by a change that was made
 pub record OnlyMade (made : List (List Entry)) (m : List ℕ) (log : List (List Entry)) (s : Held) : Type 0 where
   pub changes : (e : Entry) → StandsIn e (changes_of log) → ChangeMade made e
-  pub settings : (valve address word : ℕ) → StandsIn (cell valve address) s.index → word_at (views m) (cell valve address) ≡ some word → ChangeMade made (cell valve word)
+  pub settings : (valve address word : ℕ) → StandsIn (cell valve address) s.index → word_at (views m) (cell valve address) ≡ Some word → ChangeMade made (cell valve word)
 
 -- "It never shows a change that was not made"
 unfoldable pub NoChangeInvented : Type 0

@@ -2,7 +2,7 @@
 use mathlib.Core.Path.{◌≡◌, refl, sym, ap, subst, ◌∙◌}
 use mathlib.Core.Logic.{◌⊎◌, inl, inr}
 use mathlib.Core.Bool.{Bool, true, false, not}
-use mathlib.Core.Option.{some}
+use Rattle.std.proofs.Common.{Some}
 use mathlib.Core.List.{List, [], ◌∷◌, ◌++◌}
 use Prim.Native.Nat.{ℕ, zero, suc, ◌+◌, ◌-◌, ◌*◌, ◌/◌, ◌^◌, ◌≤◌, ◌<◌}
 use native.Mathlib.Omega.{arith}
@@ -120,13 +120,13 @@ turned_of n v s b ks ws e =
 
 within_alone : (l : List Place) (b : List ℕ) (es : List Entry) → holds_none b ≡ true → within l (changes_of (buffered_in b) ++ es) ≡ true → within l es ≡ true
 unfolding changes_of
-within_alone l b es none w = rw (none_held b none) at w
+within_alone l b es None w = rw (none_held b None) at w
 
 pub small_groups_lem : SmallGroups
 unfolding SmallGroups append_of under
-small_groups_lem n v s b ks ws none e =
+small_groups_lem n v s b ks ws None e =
     let T = turned_of n v s b ks ws e in
-    rw (T.size, T.fits, T.rests, none, T.lists, T.allowed, within_alone s.index b (zip ks ws) none T.withins, more_room v s.head (length ks) (some_entry ks ws T.lists) T.short)
+    rw (T.size, T.fits, T.rests, None, T.lists, T.allowed, within_alone s.index b (zip ks ws) None T.withins, more_room v s.head (length ks) (some_entry ks ws T.lists) T.short)
 
 few_pages : (ks ws : List ℕ) → lists_ok ks ws ≡ true → pages_for (length ks) ≤ 4
 unfolding lists_ok pages_for
@@ -211,55 +211,55 @@ module _ {m : List ℕ} {s : Held} {h : History} (K : Known m s h) (rests : s.pe
 
 -- ---- what the dispatcher names
 
-next_append : (m : List ℕ) (s s' : Held) (ks ws : List ℕ) → append_of (length m) (views m) s fresh ks ws ≡ gives s' → named_in (world m (some s) fresh) ks ws ≡ gives Next.append
+next_append : (m : List ℕ) (s s' : Held) (ks ws : List ℕ) → append_of (length m) (views m) s fresh ks ws ≡ gives s' → named_in (world m (Some s) fresh) ks ws ≡ gives Next.append
 unfolding named_in with_state next_of answers13 and_then naming
 next_append m s s' ks ws e = rw e
 
 next_append_14 : (m : List ℕ) (s : Held) (ks ws : List ℕ) → append_of (length m) (views m) s fresh ks ws ≡ refused 14
-    → named_in (world m (some s) fresh) ks ws ≡ refused 14
+    → named_in (world m (Some s) fresh) ks ws ≡ refused 14
 unfolding named_in with_state next_of answers13 and_then naming
 next_append_14 m s ks ws e = rw e
 
 next_commit_14 : (m : List ℕ) (s : Held) (ks ws : List ℕ) → append_of (length m) (views m) s fresh ks ws ≡ refused 13
     → newer (views m) ≡ true
-    → commit_of (length m) (views m) s fresh ≡ refused 14 → named_in (world m (some s) fresh) ks ws ≡ refused 14
+    → commit_of (length m) (views m) s fresh ≡ refused 14 → named_in (world m (Some s) fresh) ks ws ≡ refused 14
 unfolding named_in with_state next_of answers13 and_then naming room_maker
 next_commit_14 m s ks ws e a c = rw (e, a, c)
 
 next_collect_14 : (m : List ℕ) (s : Held) (ks ws : List ℕ) (b : ℕ) → append_of (length m) (views m) s fresh ks ws ≡ refused 13
     → newer (views m) ≡ false
-    → pick_below (views m) s.head s.index s.head.blocks ≡ some b
-    → collect_of (length m) (views m) s fresh b ≡ refused 14 → named_in (world m (some s) fresh) ks ws ≡ refused 14
+    → pick_below (views m) s.head s.index s.head.blocks ≡ Some b
+    → collect_of (length m) (views m) s fresh b ≡ refused 14 → named_in (world m (Some s) fresh) ks ws ≡ refused 14
 unfolding named_in with_state next_of answers13 and_then naming room_maker collection
 next_collect_14 m s ks ws b e a p c = rw (e, a, p, c)
 
 next_commit : (m : List ℕ) (s s' : Held) (ks ws : List ℕ) → append_of (length m) (views m) s fresh ks ws ≡ refused 13 → newer (views m) ≡ true
-    → commit_of (length m) (views m) s fresh ≡ gives s' → named_in (world m (some s) fresh) ks ws ≡ gives Next.commit
+    → commit_of (length m) (views m) s fresh ≡ gives s' → named_in (world m (Some s) fresh) ks ws ≡ gives Next.commit
 unfolding named_in with_state next_of answers13 and_then naming room_maker
 next_commit m s s' ks ws e a c = rw (e, a, c)
 
 next_collect : (m : List ℕ) (s s' : Held) (ks ws : List ℕ) (b : ℕ) → append_of (length m) (views m) s fresh ks ws ≡ refused 13 → newer (views m) ≡ false
-    → pick_below (views m) s.head s.index s.head.blocks ≡ some b
-    → collect_of (length m) (views m) s fresh b ≡ gives s' → named_in (world m (some s) fresh) ks ws ≡ gives (Next.collect b)
+    → pick_below (views m) s.head s.index s.head.blocks ≡ Some b
+    → collect_of (length m) (views m) s fresh b ≡ gives s' → named_in (world m (Some s) fresh) ks ws ≡ gives (Next.collect b)
 unfolding named_in with_state next_of answers13 and_then naming room_maker collection
 next_collect m s s' ks ws b e a p c = rw (e, a, p, c)
 
 -- ---- an operation begun
 
 module _ {m : List ℕ} {s : Held} {h : History} (K : Known m s h) where
-  commit_begun : (s' : Held) → commit_of (length m) (views m) s fresh ≡ gives s' → happen (world m (some s) fresh) Event.commit ≡ moment m (some s') fresh began_commit
+  commit_begun : (s' : Held) → commit_of (length m) (views m) s fresh ≡ gives s' → happen (world m (Some s) fresh) Event.commit ≡ moment m (Some s') fresh began_commit
   unfolding happen with_state called
   commit_begun s' e = rw e
 
-  collect_begun : (b : ℕ) (s' : Held) → collect_of (length m) (views m) s fresh b ≡ gives s' → happen (world m (some s) fresh) (Event.collect b) ≡ moment m (some s') fresh began_collect
+  collect_begun : (b : ℕ) (s' : Held) → collect_of (length m) (views m) s fresh b ≡ gives s' → happen (world m (Some s) fresh) (Event.collect b) ≡ moment m (Some s') fresh began_collect
   unfolding happen with_state called
   collect_begun b s' e = rw e
 
-  pub knows_begun : (s' : Held) (ev : Event (world m (some s) fresh)) (t : Told) → happen (world m (some s) fresh) ev ≡ moment m (some s') fresh t → Known m s' (tell h t)
-  knows_begun s' ev t e = known m s' (tell h t) (subst (λ (x : Moment). Reached x.after (tell h x.told)) e (Reached.next (world m (some s) fresh) h ev K.reached))
+  pub knows_begun : (s' : Held) (ev : Event (world m (Some s) fresh)) (t : Told) → happen (world m (Some s) fresh) ev ≡ moment m (Some s') fresh t → Known m s' (tell h t)
+  knows_begun s' ev t e = known m s' (tell h t) (subst (λ (x : Moment). Reached x.after (tell h x.told)) e (Reached.next (world m (Some s) fresh) h ev K.reached))
 
   pub append_begun : (ks ws : List ℕ) (narrow : Below (2 ^ 16) ks) (small : Below (2 ^ 64) ws) (s' : Held) → append_of (length m) (views m) s fresh ks ws ≡ gives s'
-      → happen (world m (some s) fresh) (Event.append ks ws narrow small) ≡ moment m (some s') fresh (began_append (zip ks ws))
+      → happen (world m (Some s) fresh) (Event.append ks ws narrow small) ≡ moment m (Some s') fresh (began_append (zip ks ws))
   unfolding happen with_state called
   append_begun ks ws narrow small s' e = rw e
 
@@ -400,16 +400,16 @@ serials_false h n e = leb-false (h.serial + n) (2 ^ 64 - 1) e
 
 module _ (ks ws : List ℕ) (narrow : Below (2 ^ 16) ks) (small : Below (2 ^ 64) ws) (t : ℕ) where
   admit_now : {m : List ℕ} {s : Held} {h : History} (K : Known m s h) → s.pending ≡ idle → Offer s ks ws → pages_for (length ks) + 16 ≤ available (views m) s.head
-      → s.head.serial + pages_for (length ks) ≤ t → Comes ks ws t 0 0 (world m (some s) fresh)
+      → s.head.serial + pages_for (length ks) ≤ t → Comes ks ws t 0 0 (world m (Some s) fresh)
   admit_now {m} {s} {h} K e o room serials =
       by_cases (serials_for s.head (pages_for (length ks))) (λ q. inl (goes q))
-      (λ q. stops (world m (some s) fresh) (next_append_14 m s ks ws (append_short K e ks ws o has_room q))
+      (λ q. stops (world m (Some s) fresh) (next_append_14 m s ks ws (append_short K e ks ws o has_room q))
       (omega (arith, serials_false s.head (pages_for (length ks)) q)))
     where
       has_room : room_for (views m) s.head (pages_for (length ks) + 16) ≡ true
       has_room = unfold room_for in le-leb (pages_for (length ks) + 16) (available (views m) s.head) room
 
-      goes : serials_for s.head (pages_for (length ks)) ≡ true → Bounded ks ws 0 0 (world m (some s) fresh)
+      goes : serials_for s.head (pages_for (length ks)) ≡ true → Bounded ks ws 0 0 (world m (Some s) fresh)
       goes q =
           let a = append_begins K e ks ws o has_room q in
           let K₁ =
@@ -426,8 +426,8 @@ module _ (ks ws : List ℕ) (narrow : Below (2 ^ 16) ks) (small : Below (2 ^ 64)
             few_collections = unfold collections_in in omega arith;
             admits =
                 record {
-                  before = world m (some s) fresh;
-                  leads = here (world m (some s) fresh);
+                  before = world m (Some s) fresh;
+                  leads = here (world m (Some s) fresh);
                   named = next_append m s (starting s (append (zip ks ws) [])) ks ws a;
                   begun = starting s (append (zip ks ws) []);
                   begins = unfold append_in with_state in a;
@@ -443,13 +443,13 @@ module _ (ks ws : List ℕ) (narrow : Below (2 ^ 16) ks) (small : Below (2 ^ 64)
 
   -- one collection suffices
   collect_once : {m : List ℕ} {s : Held} {h : History} (K : Known m s h) → s.pending ≡ idle → Offer s ks ws → append_of (length m) (views m) s fresh ks ws ≡ refused 13 → newer (views m) ≡ false
-      → (b j : ℕ) → pick_below (views m) s.head s.index s.head.blocks ≡ some b → collectible (views m) s.head b ≡ true
+      → (b j : ℕ) → pick_below (views m) s.head s.index s.head.blocks ≡ Some b → collectible (views m) s.head b ≡ true
       → pages_for (length (live s.index b)) ≤ j → j ≤ available (views m) s.head
       → pages_for (length ks) + j ≤ available (views m) s.head → s.head.serial + (j + pages_for (length ks)) ≤ t
-      → Comes ks ws t 0 1 (world m (some s) fresh)
+      → Comes ks ws t 0 1 (world m (Some s) fresh)
   collect_once {m} {s} {h} K e o full13 settled b j picks fit few room gains serials =
       by_cases (serials_for s.head (pages_for (length (live s.index b)))) (λ q. goes q)
-      (λ q. stops (world m (some s) fresh)
+      (λ q. stops (world m (Some s) fresh)
       (next_collect_14 m s ks ws b full13 settled picks (collect_short K e ks ws b fit (omega arith) q))
       (omega (arith, serials_false s.head (pages_for (length (live s.index b))) q)))
     where
@@ -464,16 +464,16 @@ module _ (ks ws : List ℕ) (narrow : Below (2 ^ 16) ks) (small : Below (2 ^ 64)
             withins = within_same D.s'.index s.index (zip ks ws) (zip ks ws) (keys_shown D.knows ∙ ap keys_of D.settings ∙ (unfold tell in sym (keys_shown K))) refl ∙ o.withins;
           }
 
-      goes : serials_for s.head k ≡ true → Comes ks ws t 0 1 (world m (some s) fresh)
+      goes : serials_for s.head k ≡ true → Comes ks ws t 0 1 (world m (Some s) fresh)
       goes q =
           let c = collect_begins K e ks ws b fit (omega arith) q in
           let ev = collect_begun K b (starting s (collect b)) c in
           let K₁ = knows_begun K (starting s (collect b)) (Event.collect b) began_collect ev in
           let D = collect_runs k K₁ b refl (unfold tell in refl) (omega arith) (serials_true s.head k q) in
           let B = admit_now D.knows D.rests (offers D) (omega (arith, D.supply)) (omega (arith, D.serials)) in
-          collect_then (world m (some s) fresh) (world D.m' (some D.s') fresh) b
+          collect_then (world m (Some s) fresh) (world D.m' (Some D.s') fresh) b
           (next_collect m s (starting s (collect b)) ks ws b full13 settled picks c)
-          (subst (λ (x : Moment). Finishes x.after (world D.m' (some D.s') fresh)) (sym ev) D.run) B
+          (subst (λ (x : Moment). Finishes x.after (world D.m' (Some D.s') fresh)) (sym ev) D.run) B
 
 -- ---- collectible blocks
 
@@ -585,7 +585,7 @@ module _ {m : List ℕ} {s : Held} {h : History} (K : Known m s h) (rests : s.pe
   frame₀ = record { head_in = inl refl; used = used; olds = λ x l na nb. old_is v s.head.serial x (λ q pg e y. serials_bound K q pg y) }
 
   -- the newest page ends a base: one collection
-  settled : newer v ≡ false → Comes ks ws t 0 1 (world m (some s) fresh)
+  settled : newer v ≡ false → Comes ks ws t 0 1 (world m (Some s) fresh)
   settled e =
       let B = N.best_of in
       let p : pages_for (length (live s.index N.block)) ≤ 8 = pages_most (length (live s.index N.block)) 8 (omega (arith, live_few N.block s.index, index_few K)) in
@@ -652,14 +652,14 @@ module _ {m : List ℕ} {s : Held} {h : History} (K : Known m s h) (rests : s.pe
         omega (arith, a, b, live_two free₁.x free₁.y D.s'.index free₁.xy, index_few D.knows)
 
     then_collect : room_for (views D.m') D.s'.head (pages_for (length ks) + 16) ≡ false
-        → Comes ks ws t 0 1 (world D.m' (some D.s') fresh)
+        → Comes ks ws t 0 1 (world D.m' (Some D.s') fresh)
     then_collect e =
         collect_once ks ws narrow small t D.knows D.rests offer₁ (append_full D.knows D.rests ks ws offer₁ e) D.ends_base_lem
         N₁.block 4 N₁.is N₁.best_of.fits
         (pages_most (length (live D.s'.index N₁.block)) 4 (omega (arith, fewest))) (omega (arith, pages₁)) (omega (arith, pages₁, few)) (omega (arith, D.serials))
 
     then_in : room_for (views D.m') D.s'.head (pages_for (length ks) + 16) ≡ true
-        → Comes ks ws t 0 0 (world D.m' (some D.s') fresh)
+        → Comes ks ws t 0 0 (world D.m' (Some D.s') fresh)
     then_in e =
         admit_now ks ws narrow small t D.knows D.rests offer₁
         (leb-true (pages_for (length ks) + 16) (available (views D.m') D.s'.head) (unfold room_for in e))
@@ -679,7 +679,7 @@ module _ {m : List ℕ} {s : Held} {h : History} (K : Known m s h) (rests : s.pe
     c : commit_of (length m) v s fresh ≡ gives (starting s (commit 0))
     c = commit_begins K rests ks ws (omega (arith, base.1)) q
 
-    ev : happen (world m (some s) fresh) Event.commit ≡ moment m (some (starting s (commit 0))) fresh began_commit
+    ev : happen (world m (Some s) fresh) Event.commit ≡ moment m (Some (starting s (commit 0))) fresh began_commit
     ev = commit_begun K (starting s (commit 0)) c
 
     D₁ : CommitDone m (starting s (commit 0)) (suc (base_pages (length s.index) - 1)) s.head.serial s.head.block spare_one.at
@@ -688,15 +688,15 @@ module _ {m : List ℕ} {s : Held} {h : History} (K : Known m s h) (rests : s.pe
         s.head.serial s.head.block spare_one.at refl
         (omega (arith, base.0)) (omega arith) (omega (arith, base.0, serials_true s.head (base_pages (length s.index)) q)) frame₀
 
-    first : (n : ℕ) → n ≤ 1 → Comes ks ws t 0 n (world D₁.m' (some D₁.s') fresh) → Comes ks ws t 1 1 (world m (some s) fresh)
+    first : (n : ℕ) → n ≤ 1 → Comes ks ws t 0 n (world D₁.m' (Some D₁.s') fresh) → Comes ks ws t 1 1 (world m (Some s) fresh)
     first n l B =
         comes_wider
-        (commit_then (world m (some s) fresh) (world D₁.m' (some D₁.s') fresh)
+        (commit_then (world m (Some s) fresh) (world D₁.m' (Some D₁.s') fresh)
         (next_commit m s (starting s (commit 0)) ks ws full13 e c)
-        (subst (λ (x : Moment). Finishes x.after (world D₁.m' (some D₁.s') fresh)) (sym ev) D₁.run) B)
+        (subst (λ (x : Moment). Finishes x.after (world D₁.m' (Some D₁.s') fresh)) (sym ev) D₁.run) B)
         (omega arith) l
 
-    after_commit : Comes ks ws t 1 1 (world m (some s) fresh)
+    after_commit : Comes ks ws t 1 1 (world m (Some s) fresh)
     after_commit =
         by_cases (room_for (views D₁.m') D₁.s'.head (pages_for (length ks) + 16))
         (λ r. first 0 (omega arith) (then_in (suc (base_pages (length s.index) - 1)) D₁ few_base_pages counted_base r))
@@ -705,13 +705,13 @@ module _ {m : List ℕ} {s : Held} {h : History} (K : Known m s h) (rests : s.pe
         counted_base : suc (base_pages (length s.index) - 1) + 4 ≤ pages_before v s
         counted_base = omega (arith, base.0, base_first_lem e)
 
-  unsettled : newer v ≡ true → Comes ks ws t 1 1 (world m (some s) fresh)
+  unsettled : newer v ≡ true → Comes ks ws t 1 1 (world m (Some s) fresh)
   unsettled e =
       by_cases (serials_for s.head (base_pages (length s.index))) (λ q. after_commit e q)
-      (λ q. stops (world m (some s) fresh) (next_commit_14 m s ks ws full13 e (commit_short K rests ks ws (omega (arith, base.1)) q))
+      (λ q. stops (world m (Some s) fresh) (next_commit_14 m s ks ws full13 e (commit_short K rests ks ws (omega (arith, base.1)) q))
       (omega (arith, base_first_lem e, serials_false s.head (base_pages (length s.index)) q)))
 
-  comes : Comes ks ws t 1 1 (world m (some s) fresh)
+  comes : Comes ks ws t 1 1 (world m (Some s) fresh)
   comes = by_cases (newer v) (λ e. unsettled e) (λ e. comes_wider (settled e) (omega arith) (omega arith))
 
 -- the next serial after all pages that the way takes
@@ -721,7 +721,7 @@ serial_after w s ks = s.head.serial + (pages_before (views w.medium) s + pages_f
 -- the group is let in, or serials run out, which they do only where there is not one for each page
 let_in_or_14 : (w : World) (h : History) (s : Held) (ks ws : List ℕ) → Meets13 w h s ks ws → Comes ks ws (serial_after w s ks) 1 1 w
 let_in_or_14 w h s ks ws M =
-    let q : w ≡ world w.medium (some s) fresh = rw (M.state, M.empty) in
+    let q : w ≡ world w.medium (Some s) fresh = rw (M.state, M.empty) in
     rw q (comes (known w.medium s h (rw q at M.reached)) M.rests ks ws M.narrow M.small (rw M.empty at M.met13)
     M.pages)
 
@@ -762,4 +762,4 @@ sixteen w h s ks ws M k = by_pages w h s ks ws M
   where
     valves : length s.index ≤ 192
     valves = index_few (known w.medium s h
-        (let q : w ≡ world w.medium (some s) fresh = rw (M.state, M.empty) in rw q at M.reached))
+        (let q : w ≡ world w.medium (Some s) fresh = rw (M.state, M.empty) in rw q at M.reached))

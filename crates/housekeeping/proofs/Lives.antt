@@ -2,7 +2,7 @@
 use mathlib.Core.Path.{◌≡◌, refl, sym, ap, subst, ◌∙◌}
 use mathlib.Core.Logic.{inl, inr}
 use mathlib.Core.Bool.{Bool, true, false, ◌&&◌}
-use mathlib.Core.Option.{Option, none, some}
+use Rattle.std.proofs.Common.{Option, None, Some}
 use mathlib.Core.List.{List, [], ◌∷◌, ◌++◌}
 use Prim.Native.Nat.{ℕ, zero, suc, ◌+◌, ◌-◌, ◌*◌, ◌/◌, ◌≤◌, ◌<◌}
 use native.Mathlib.Omega.{arith}
@@ -51,24 +51,24 @@ use Rattle.housekeeping.proofs.Places.{Based, Near, Stands, turned_fewer, fewer_
 -- ---- the world
 
 unfoldable pub StateStands : List View → Option Held → Type 0
-StateStands v none = Unit {0}
-StateStands v (some s) = Stands v s
+StateStands v None = Unit {0}
+StateStands v (Some s) = Stands v s
 
 pub record Placing (v : List View) (o : Option Held) : Type 0 where
   pub based : Based v (base v) (suc (serial_of (newest_of v)))
   pub state : StateStands v o
 
 -- a state that is there knows both numbers
-base_held : {v : List View} {s : Held} {h : History} → Coupled v (some s) h → base v ≡ s.head.base
+base_held : {v : List View} {s : Held} {h : History} → Coupled v (Some s) h → base v ≡ s.head.base
 base_held c = base_is c.medium ∙ sym (alive_of c.memory).bases
 
-next_held : {v : List View} {s : Held} {h : History} → Coupled v (some s) h → suc (serial_of (newest_of v)) ≡ s.head.serial
+next_held : {v : List View} {s : Held} {h : History} → Coupled v (Some s) h → suc (serial_of (newest_of v)) ≡ s.head.serial
 next_held c = greatest c.medium ∙ sym (alive_of c.memory).serials
 
-placing : {v : List View} {s : Held} {h : History} → Coupled v (some s) h → Stands v s → Placing v (some s)
+placing : {v : List View} {s : Held} {h : History} → Coupled v (Some s) h → Stands v s → Placing v (Some s)
 placing c t = record { based = rw (base_held c, next_held c) t.based; state = unfold StateStands in t }
 
-lost_state : {v : List View} {o : Option Held} → Placing v o → Placing v none
+lost_state : {v : List View} {o : Option Held} → Placing v o → Placing v None
 lost_state P = record { based = P.based; state = unfold StateStands in tt }
 
 -- ---- the step
@@ -102,7 +102,7 @@ no_flush k e = let z : ◌≡◌ {A = ℕ} 0 1 = cc in omega arith
 no_collect : (b k : ℕ) → collect b ≡ commit k → ⊥
 no_collect b k e = let z : ◌≡◌ {A = ℕ} 0 1 = cc in omega arith
 
-module _ (v : List View) (s : Held) (h : History) (c : Coupled v (some s) h) (r : Ready v s) (t : Stands v s) where
+module _ (v : List View) (s : Held) (h : History) (c : Coupled v (Some s) h) (r : Ready v s) (t : Stands v s) where
   abbrev p : ℕ
   p = page_due v s.head
 
@@ -213,26 +213,26 @@ module _ (v : List View) (s : Held) (h : History) (c : Coupled v (some s) h) (r 
 
 -- ---- events
 
-module _ (m : List ℕ) (s : Held) (bs : List ℕ) (h : History) (U : Upheld (world m (some s) bs) h) (r : Ready (views m) s) (P : Placing (views m) (some s)) where
+module _ (m : List ℕ) (s : Held) (bs : List ℕ) (h : History) (U : Upheld (world m (Some s) bs) h) (r : Ready (views m) s) (P : Placing (views m) (Some s)) where
   stands : Stands (views m) s
   stands = unfold StateStands in P.state
 
   steps : (cs : List Need) → StepStands (views m) (under cs (erased_first (views m) s (due (views m) s (buffered_in bs) s.pending)))
   steps cs = step_stands (views m) s h U.coupled r stands cs (buffered_in bs)
 
-  begun_stands : (pend : Pending) → ((k : ℕ) → pend ≡ commit k → Near (views m) (s.head.serial - k) s.head k) → Placing (views m) (some (starting s pend))
+  begun_stands : (pend : Pending) → ((k : ℕ) → pend ≡ commit k → Near (views m) (s.head.serial - k) s.head k) → Placing (views m) (Some (starting s pend))
   begun_stands pend n = record { based = P.based; state = unfold StateStands in record { newest = stands.newest; near = n; based = stands.based } }
 
-  call_stands : (t : Told) (cs : List Need) (s' : Held) → Placing (views m) (some s')
-      → Placing (views (called (world m (some s) bs) t (checked cs s')).after.medium) (called (world m (some s) bs) t (checked cs s')).after.state
+  call_stands : (t : Told) (cs : List Need) (s' : Held) → Placing (views m) (Some s')
+      → Placing (views (called (world m (Some s) bs) t (checked cs s')).after.medium) (called (world m (Some s) bs) t (checked cs s')).after.state
   call_stands t cs s' p =
-      checked_cases (λ (c : Answer Held). Placing (views (called (world m (some s) bs) t c).after.medium) (called (world m (some s) bs) t c).after.state) cs (gives s')
+      checked_cases (λ (c : Answer Held). Placing (views (called (world m (Some s) bs) t c).after.medium) (called (world m (Some s) bs) t c).after.state) cs (gives s')
       (λ n. unfold called in P) (λ e. unfold called in p)
 
-  buffer_stands : (t : Told) (cs : List Need) (b : List ℕ) → Placing (views (filled (world m (some s) bs) t (checked cs b)).after.medium)
-      (filled (world m (some s) bs) t (checked cs b)).after.state
+  buffer_stands : (t : Told) (cs : List Need) (b : List ℕ) → Placing (views (filled (world m (Some s) bs) t (checked cs b)).after.medium)
+      (filled (world m (Some s) bs) t (checked cs b)).after.state
   buffer_stands t cs b =
-      checked_cases (λ (c : Answer (List ℕ)). Placing (views (filled (world m (some s) bs) t c).after.medium) (filled (world m (some s) bs) t c).after.state) cs (gives b)
+      checked_cases (λ (c : Answer (List ℕ)). Placing (views (filled (world m (Some s) bs) t c).after.medium) (filled (world m (Some s) bs) t c).after.state) cs (gives b)
       (λ n. unfold filled in P) (λ e. unfold filled in P)
 
   -- no page of a commit is done
@@ -242,14 +242,14 @@ module _ (m : List ℕ) (s : Held) (bs : List ℕ) (h : History) (U : Upheld (wo
       record { other = s.head.block; each = λ q pg y l. absurd (let g = bound (views m) s h U.coupled r stands q pg y in omega arith); room = inl refl }
 
   stepped_places : (st : Answer Step) → Good (views m) s bs h st → StepStands (views m) st
-      → Placing (views (stepped (world m (some s) bs) st).after.medium) (stepped (world m (some s) bs) st).after.state
+      → Placing (views (stepped (world m (Some s) bs) st).after.medium) (stepped (world m (Some s) bs) st).after.state
   unfolding stepped medium_after Good StepStands
   stepped_places (refused n) G R = P
   stepped_places (gives (Step.program p pg s' finished)) G R = rw (program_views m p pg (there m s bs h U p pg s' G) G.fits_in) (placing G.after R)
   stepped_places (gives (Step.erase b s' finished)) G R = placing (G.after (views (erased m b)) (erase_cut m s bs h U b s' G)) (R (views (erased m b)) (erase_cut m s bs h U b s' G))
 
   cut_places : (st : Answer Step) → Good (views m) s bs h st → StepStands (views m) st → (left : List ℕ) → CutOf m st left
-      → Placing (views (cut_short (world m (some s) bs) left st).after.medium) (cut_short (world m (some s) bs) left st).after.state
+      → Placing (views (cut_short (world m (Some s) bs) left st).after.medium) (cut_short (world m (Some s) bs) left st).after.state
   unfolding cut_short CutOf Good StepStands
   cut_places (refused n) G R left c = absurd c
   cut_places (gives (Step.program p pg s' finished)) G R left c =
@@ -257,7 +257,7 @@ module _ (m : List ℕ) (s : Held) (bs : List ℕ) (h : History) (U : Upheld (wo
       (λ e. rw (same_true left (programmed m p pg) e) (rw (program_views m p pg (there m s bs h U p pg s' G) G.fits_in) (lost_state (placing G.after R))))
       (λ e. record { based = torn_based e; state = unfold StateStands in tt })
     where
-      C : Coupled (views m) (some s) h
+      C : Coupled (views m) (Some s) h
       C = U.coupled
 
       fewer : same_bytes left (programmed m p pg) ≡ false → Fewer (views m) (views left)
@@ -294,35 +294,35 @@ recover_places m s bs h U P = rw (accepts U.coupled.medium (length m) U.size) (u
 event_places : (m : List ℕ) (s : Option Held) (bs : List ℕ) (h : History) (e : Event (world m s bs)) → Upheld (world m s bs) h → StateReady (views m) s → Placing (views m) s
     → Placing (views (happen (world m s bs) e).after.medium) (happen (world m s bs) e).after.state
 unfolding happen with_state step_due
-event_places m none bs h (Event.append ks ws a b) U r P = P
-event_places m (some s) bs h (Event.append ks ws a b) U r P =
+event_places m None bs h (Event.append ks ws a b) U r P = P
+event_places m (Some s) bs h (Event.append ks ws a b) U r P =
     unfold append_of StateReady in
     call_stands m s bs h U r P (began_append (zip ks ws)) (append_needs (length m) (views m) s bs ks ws) (starting s (append (zip ks ws) []))
     (begun_stands m s bs h U r P (append (zip ks ws) []) (λ k q. absurd (no_append (zip ks ws) [] k q)))
-event_places m none bs h Event.commit U r P = P
-event_places m (some s) bs h Event.commit U r P =
+event_places m None bs h Event.commit U r P = P
+event_places m (Some s) bs h Event.commit U r P =
     unfold commit_of StateReady in
     call_stands m s bs h U r P began_commit (commit_needs (length m) (views m) s bs) (starting s (commit 0)) (begun_stands m s bs h U r P (commit 0) (near_none m s bs h U r P))
-event_places m none bs h (Event.collect b) U r P = P
-event_places m (some s) bs h (Event.collect b) U r P =
+event_places m None bs h (Event.collect b) U r P = P
+event_places m (Some s) bs h (Event.collect b) U r P =
     unfold collect_of StateReady in
     call_stands m s bs h U r P began_collect (collect_needs (length m) (views m) s bs b) (starting s (collect b)) (begun_stands m s bs h U r P (collect b) (λ k q. absurd (no_collect b k q)))
-event_places m none bs h (Event.buffer ks ws a b) U r P = P
-event_places m (some s) bs h (Event.buffer ks ws a b) U r P =
+event_places m None bs h (Event.buffer ks ws a b) U r P = P
+event_places m (Some s) bs h (Event.buffer ks ws a b) U r P =
     unfold buffer_of StateReady in buffer_stands m s bs h U r P (put_in (zip ks ws)) (buffer_needs (length m) (views m) s bs ks ws) (holding (buffered_in bs ++ (zip ks ws ∷ [])))
-event_places m none bs h Event.flush U r P = P
-event_places m (some s) bs h Event.flush U r P =
+event_places m None bs h Event.flush U r P = P
+event_places m (Some s) bs h Event.flush U r P =
     unfold flush_of StateReady in
     call_stands m s bs h U r P began_flush (flush_needs (length m) (views m) s bs) (starting s flush) (begun_stands m s bs h U r P flush (λ k q. absurd (no_flush k q)))
-event_places m none bs h Event.step U r P = unfold stepped in P
-event_places m (some s) bs h Event.step U r P =
+event_places m None bs h Event.step U r P = unfold stepped in P
+event_places m (Some s) bs h Event.step U r P =
     unfold StateReady in
     stepped_places m s bs h U r P (step_of (length m) (views m) s bs) (due_good m s bs h U) (unfold step_of in steps m s bs h U r P _)
 event_places m s bs h Event.recover U r P = recover_places m s bs h U P
 event_places m s bs h Event.read U r P = P
 event_places m s bs h Event.cut U r P = lost_state P
-event_places m none bs h (Event.cut_inside left c) U r P = absurd (unfold CutOf in c)
-event_places m (some s) bs h (Event.cut_inside left c) U r P =
+event_places m None bs h (Event.cut_inside left c) U r P = absurd (unfold CutOf in c)
+event_places m (Some s) bs h (Event.cut_inside left c) U r P =
     unfold StateReady in
     cut_places m s bs h U r P (step_of (length m) (views m) s bs) (due_good m s bs h U) (unfold step_of in steps m s bs h U r P _) left c
 
@@ -331,24 +331,24 @@ earlier_places : (m : List ℕ) (s : Option Held) (bs : List ℕ) (h : History) 
     → StateReady (views m) s → Placing (views m) s → Placing (views (happened (world m s bs) e).after.medium) (happened (world m s bs) e).after.state
 unfolding happened with_state step_due_before
 earlier_places m s bs h (Earlier.same e) U r P = event_places m s bs h e U r P
-earlier_places m none bs h (Earlier.append ks ws a b) U r P = P
-earlier_places m (some s) bs h (Earlier.append ks ws a b) U r P =
+earlier_places m None bs h (Earlier.append ks ws a b) U r P = P
+earlier_places m (Some s) bs h (Earlier.append ks ws a b) U r P =
     unfold append_before StateReady in
     call_stands m s bs h U r P (began_append (zip ks ws)) _ (starting s (append (zip ks ws) []))
     (begun_stands m s bs h U r P (append (zip ks ws) []) (λ k q. absurd (no_append (zip ks ws) [] k q)))
-earlier_places m none bs h (Earlier.buffer ks ws a b) U r P = P
-earlier_places m (some s) bs h (Earlier.buffer ks ws a b) U r P =
+earlier_places m None bs h (Earlier.buffer ks ws a b) U r P = P
+earlier_places m (Some s) bs h (Earlier.buffer ks ws a b) U r P =
     unfold buffer_before StateReady in buffer_stands m s bs h U r P (put_in (zip ks ws)) _ (holding (buffered_in bs ++ (zip ks ws ∷ [])))
-earlier_places m none bs h Earlier.flush U r P = P
-earlier_places m (some s) bs h Earlier.flush U r P =
+earlier_places m None bs h Earlier.flush U r P = P
+earlier_places m (Some s) bs h Earlier.flush U r P =
     unfold flush_before StateReady in
     call_stands m s bs h U r P began_flush _ (starting s flush) (begun_stands m s bs h U r P flush (λ k q. absurd (no_flush k q)))
-earlier_places m none bs h Earlier.step U r P = unfold stepped in P
-earlier_places m (some s) bs h Earlier.step U r P =
+earlier_places m None bs h Earlier.step U r P = unfold stepped in P
+earlier_places m (Some s) bs h Earlier.step U r P =
     unfold StateReady in
     stepped_places m s bs h U r P (step_before (length m) (views m) s bs) (due_before m s bs h U) (unfold step_before in steps m s bs h U r P _)
-earlier_places m none bs h (Earlier.cut_inside left c) U r P = absurd (unfold CutOf in c)
-earlier_places m (some s) bs h (Earlier.cut_inside left c) U r P =
+earlier_places m None bs h (Earlier.cut_inside left c) U r P = absurd (unfold CutOf in c)
+earlier_places m (Some s) bs h (Earlier.cut_inside left c) U r P =
     unfold StateReady in
     cut_places m s bs h U r P (step_before (length m) (views m) s bs) (due_before m s bs h U) (unfold step_before in steps m s bs h U r P _) left c
 

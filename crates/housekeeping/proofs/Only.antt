@@ -1,7 +1,7 @@
 -- There is one way at most on which the dispatcher lets a group in.
 use mathlib.Core.Path.{◌≡◌, refl, sym, ap, ◌∙◌}
 use mathlib.Core.Bool.{true, not}
-use mathlib.Core.Option.{some}
+use Rattle.std.proofs.Common.{Some}
 use mathlib.Core.List.{List, ◌∷◌}
 use Prim.Native.Nat.{ℕ, ◌≤◌}
 use native.Mathlib.Omega.{arith}
@@ -76,9 +76,9 @@ unfolding OneWay
 only ks ws a b w d f A B =
     let r = one_lead ks ws a b w A.before B.before A.leads B.leads (append_named A.before ks ws A.named)
     (append_named B.before ks ws B.named) in
-    (r.0, one_end (world A.before.medium (some A.begun) A.before.buffer) d f A.finishes (same r.1))
+    (r.0, one_end (world A.before.medium (Some A.begun) A.before.buffer) d f A.finishes (same r.1))
   where
-    same : A.before ≡ B.before → Finishes (world A.before.medium (some A.begun) A.before.buffer) f
+    same : A.before ≡ B.before → Finishes (world A.before.medium (Some A.begun) A.before.buffer) f
     same e =
         let k : A.begun ≡ B.begun = same_given (sym A.begins ∙ ap (λ (x : World). append_in x ks ws) e ∙ B.begins) in
         rw (e, k) B.finishes

@@ -1,7 +1,7 @@
 -- What the picker names: a collectible block with no more live nodes than any other collectible one.
 use mathlib.Core.Path.{◌≡◌, refl}
 use mathlib.Core.Bool.{true, false}
-use mathlib.Core.Option.{Option, none, some}
+use Rattle.std.proofs.Common.{Option, None, Some}
 use mathlib.Core.List.{List}
 use Prim.Native.Nat.{ℕ, zero, suc, ◌≤◌, ◌<◌}
 use native.Mathlib.Omega.{arith}
@@ -24,8 +24,8 @@ module _ (v : List View) (h : Head) (index : List Place) where
 
   -- none, where none is collectible; else the best
   pub data Picks (n : ℕ) : Option ℕ → Type 0 where
-    nothing : ((x : ℕ) → x < n → collectible v h x ≡ true → ⊥) → Picks n none
-    best : {b : ℕ} → Best n b → Picks n (some b)
+    nothing : ((x : ℕ) → x < n → collectible v h x ≡ true → ⊥) → Picks n None
+    best : {b : ℕ} → Best n b → Picks n (Some b)
 
   picks_next : (n : ℕ) (o : Option ℕ) → Picks n o → Picks (suc n) (picked v h index o n)
   unfolding picked
@@ -73,7 +73,7 @@ module _ (v : List View) (h : Head) (index : List Place) where
   -- where a block is collectible the picker names one
   pub record Named (n : ℕ) : Type 0 where
     pub block : ℕ
-    pub is : pick_below v h index n ≡ some block
+    pub is : pick_below v h index n ≡ Some block
     pub best_of : Best n block
 
   pub names : (n x : ℕ) → x < n → collectible v h x ≡ true → Named n

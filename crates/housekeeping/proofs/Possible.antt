@@ -1,7 +1,7 @@
 -- The premises of the bound can be met on media of every allowed length: formatted, and filled with groups of one entry until one meets 13.
 use mathlib.Core.Path.{◌≡◌, refl, sym, ap, subst, ◌∙◌}
 use mathlib.Core.Bool.{Bool, true, false}
-use mathlib.Core.Option.{Option, some}
+use Rattle.std.proofs.Common.{Option, Some}
 use mathlib.Core.List.{List, [], ◌∷◌}
 use Prim.Native.Nat.{ℕ, zero, suc, ◌+◌, ◌-◌, ◌*◌, ◌/◌, ◌%◌, ◌^◌, ◌≤◌, ◌<◌}
 use native.Mathlib.Omega.{arith}
@@ -196,9 +196,9 @@ fill_next {m} {s} {h} F room serials =
         append_begins K F.rests keys texts (offers s F.index) room (unfold serials_for in le-leb (s.head.serial + pages_for (length keys)) (2 ^ 64 - 1) (omega (arith, one_page)))
         ∙ ap (λ (es : List Entry). gives (starting s (append es []))) zipped
 
-    ev : happen (world m (some s) fresh) (Event.append keys texts narrow_keys narrow_texts) ≡ moment m (some (starting s (append entry []))) fresh (began_append entry)
+    ev : happen (world m (Some s) fresh) (Event.append keys texts narrow_keys narrow_texts) ≡ moment m (Some (starting s (append entry []))) fresh (began_append entry)
     ev =
-        append_begun K keys texts narrow_keys narrow_texts (starting s (append entry [])) begun ∙ ap (λ (es : List Entry). moment m (some (starting s (append entry []))) fresh (began_append es)) zipped
+        append_begun K keys texts narrow_keys narrow_texts (starting s (append entry [])) begun ∙ ap (λ (es : List Entry). moment m (Some (starting s (append entry []))) fresh (began_append es)) zipped
 
     K₁ : Known m (starting s (append entry [])) (tell h (began_append entry))
     K₁ = knows_begun K (starting s (append entry [])) (Event.append keys texts narrow_keys narrow_texts) (began_append entry) ev
@@ -285,7 +285,7 @@ module _ (n : ℕ) (size : size_ok n ≡ true) where
   ends = formatting_finishes (blank n) (bytes_blank n) sizes
 
   before : World
-  before = steps_on (length (blank n) / 4096) (world (blank n) (some ends.state) fresh)
+  before = steps_on (length (blank n) / 4096) (world (blank n) (Some ends.state) fresh)
 
   after : World
   after = lent_anew (happen before Event.step).after
@@ -304,9 +304,9 @@ module _ (n : ℕ) (size : size_ok n ≡ true) where
   unfolding after before steps_on
   reached = ends.reached
 
-  is : after ≡ world after.medium (some (started (n / 4096) begins.erased)) fresh
+  is : after ≡ world after.medium (Some (started (n / 4096) begins.erased)) fresh
   unfolding after
-  is = ap (λ (o : Option Held). world after.medium o fresh) (begins.holds ∙ ap (λ (k : ℕ). some (started (k / 4096) begins.erased)) long)
+  is = ap (λ (o : Option Held). world after.medium o fresh) (begins.holds ∙ ap (λ (k : ℕ). Some (started (k / 4096) begins.erased)) long)
 
   enough : 16 ≤ available (views after.medium) (started (n / 4096) begins.erased).head
   enough =
@@ -327,17 +327,17 @@ module _ (n : ℕ) (size : size_ok n ≡ true) where
 arises : (n d : ℕ) → Filled n d → d + 16 ≤ 2 ^ 64 - 1 → Arises n
 arises n d f room =
     record {
-      w = world f.m (some f.s) fresh;
+      w = world f.m (Some f.s) fresh;
       h = f.h;
       s = f.s;
       ks = keys;
       ws = texts;
       size = f.size;
       met = met;
-      serials = unfold Sixteen in sixteen (world f.m (some f.s) fresh) f.h f.s keys texts met (omega (arith, f.serials));
+      serials = unfold Sixteen in sixteen (world f.m (Some f.s) fresh) f.h f.s keys texts met (omega (arith, f.serials));
     }
   where
-    met : Meets13 (world f.m (some f.s) fresh) f.h f.s keys texts
+    met : Meets13 (world f.m (Some f.s) fresh) f.h f.s keys texts
     met =
         record {
           reached = f.filling.knows.reached;

@@ -2,7 +2,7 @@
 use mathlib.Core.Path.{◌≡◌, refl, sym, ap, subst, ◌∙◌}
 use mathlib.Core.Logic.{◌⊎◌, inl, inr}
 use mathlib.Core.Bool.{Bool, true, false, not, cond}
-use mathlib.Core.Option.{some}
+use Rattle.std.proofs.Common.{Some}
 use mathlib.Core.List.{List, [], ◌∷◌, ◌++◌}
 use Prim.Native.Nat.{ℕ, zero, suc, ◌+◌, ◌-◌, ◌*◌, ◌/◌, ◌^◌, ◌≤◌, ◌<◌}
 use native.Mathlib.Omega.{arith}
@@ -59,18 +59,18 @@ use Rattle.housekeeping.proofs.Lives.{StateStands, reached_places}
 -- ---- a world reached with a state
 
 pub record Known (m : List ℕ) (s : Held) (h : History) : Type 0 where
-  pub reached : Reached (world m (some s) fresh) h
-  pub upheld : Upheld (world m (some s) fresh) h
+  pub reached : Reached (world m (Some s) fresh) h
+  pub upheld : Upheld (world m (Some s) fresh) h
   pub ready : Ready (views m) s
   pub stands : Stands (views m) s
 
-pub known : (m : List ℕ) (s : Held) (h : History) → Reached (world m (some s) fresh) h → Known m s h
+pub known : (m : List ℕ) (s : Held) (h : History) → Reached (world m (Some s) fresh) h → Known m s h
 known m s h R =
     record {
       reached = R;
-      upheld = reached_upheld (world m (some s) fresh) h R;
-      ready = unfold StateReady in reached_ready (world m (some s) fresh) h R;
-      stands = unfold StateStands in (reached_places (world m (some s) fresh) h R).state;
+      upheld = reached_upheld (world m (Some s) fresh) h R;
+      ready = unfold StateReady in reached_ready (world m (Some s) fresh) h R;
+      stands = unfold StateStands in (reached_places (world m (Some s) fresh) h R).state;
     }
 
 module _ {m : List ℕ} {s : Held} {h : History} (K : Known m s h) where
@@ -78,7 +78,7 @@ module _ {m : List ℕ} {s : Held} {h : History} (K : Known m s h) where
   alives = alive_of K.upheld.coupled.memory
 
   allows : Allowed h
-  allows = unfold StateAllowed in reached_allowed (world m (some s) fresh) h K.reached
+  allows = unfold StateAllowed in reached_allowed (world m (Some s) fresh) h K.reached
 
   pub fits : fit (views m) s ≡ true
   fits = fit_ready (views m) s h K.upheld.coupled allows K.ready
@@ -108,8 +108,8 @@ module _ {m : List ℕ} {s : Held} {h : History} (K : Known m s h) where
 
 pub record Goes (m : List ℕ) (s : Held) (m' : List ℕ) (s' : Held) (h' : History) (finished : Bool) : Type 0 where
   pub knows : Known m' s' h'
-  pub further : finished ≡ false → (w : World) → Finishes (world m' (some s') fresh) w → Finishes (world m (some s) fresh) w
-  pub ends_here : finished ≡ true → Finishes (world m (some s) fresh) (world m' (some s') fresh)
+  pub further : finished ≡ false → (w : World) → Finishes (world m' (Some s') fresh) w → Finishes (world m (Some s) fresh) w
+  pub ends_here : finished ≡ true → Finishes (world m (Some s) fresh) (world m' (Some s') fresh)
 
 -- A page is written at p, and the operation may be finished by it: one step, or an erase of the new head and a step. All that the runs below
 -- know of it, since of the state afterwards they ask no records of erases.
@@ -121,27 +121,27 @@ pub record Writes (m : List ℕ) (s : Held) (p : ℕ) (pg : Page) (head : Head) 
   pub goes_on : Goes m s m' (held head index pend records) h' finished
 
 module _ {m : List ℕ} {s : Held} {h : History} (K : Known m s h) where
-  module _ (m' : List ℕ) (s' : Held) (h' : History) (finished : Bool) (t : Moment) (is : happen (world m (some s) fresh) Event.step ≡ t) (after : t.after ≡ world m' (some s') fresh)
+  module _ (m' : List ℕ) (s' : Held) (h' : History) (finished : Bool) (t : Moment) (is : happen (world m (Some s) fresh) Event.step ≡ t) (after : t.after ≡ world m' (Some s') fresh)
       (tells : tell h t.told ≡ h') where
-    reaches_on : Reached (world m' (some s') fresh) h'
-    reaches_on = rw (← after, ← tells, ← is) (Reached.next (world m (some s) fresh) h Event.step K.reached)
+    reaches_on : Reached (world m' (Some s') fresh) h'
+    reaches_on = rw (← after, ← tells, ← is) (Reached.next (world m (Some s) fresh) h Event.step K.reached)
 
-    after_is : (happen (world m (some s) fresh) Event.step).after ≡ world m' (some s') fresh
+    after_is : (happen (world m (Some s) fresh) Event.step).after ≡ world m' (Some s') fresh
     after_is = ap (λ (x : Moment). x.after) is ∙ after
 
-    goes : finishes (step_due (world m (some s) fresh)) ≡ finished → (finished ≡ false → is_unfinished (step_due (world m (some s) fresh)) ≡ true) → Goes m s m' s' h' finished
+    goes : finishes (step_due (world m (Some s) fresh)) ≡ finished → (finished ≡ false → is_unfinished (step_due (world m (Some s) fresh)) ≡ true) → Goes m s m' s' h' finished
     goes fin on =
         record {
           knows = known m' s' h' reaches_on;
-          further = λ e w F. Finishes.more (world m (some s) fresh) w (on e) (subst (λ (x : World). Finishes x w) (sym after_is) F);
-          ends_here = λ e. subst (λ (x : World). Finishes (world m (some s) fresh) x) after_is (Finishes.last (world m (some s) fresh) (fin ∙ e));
+          further = λ e w F. Finishes.more (world m (Some s) fresh) w (on e) (subst (λ (x : World). Finishes x w) (sym after_is) F);
+          ends_here = λ e. subst (λ (x : World). Finishes (world m (Some s) fresh) x) after_is (Finishes.last (world m (Some s) fresh) (fin ∙ e));
         }
 
   programs : (p : ℕ) (pg : Page) (s' : Held) (finished : Bool) → step_of (length m) (views m) s fresh ≡ gives (Step.program p pg s' finished)
       → Goes m s (programmed m p pg) s' (counted h h.under_way) finished
   unfolding happen step_due with_state stepped medium_after buffer_after tell finishes is_unfinished
   programs p pg s' finished e =
-      goes (programmed m p pg) s' (counted h h.under_way) finished (moment (programmed m p pg) (some s') fresh stepped_page) (rw (e, blanks (eqb pg.kind 4))) refl refl (rw e) (λ f. rw (e, f))
+      goes (programmed m p pg) s' (counted h h.under_way) finished (moment (programmed m p pg) (Some s') fresh stepped_page) (rw (e, blanks (eqb pg.kind 4))) refl refl (rw e) (λ f. rw (e, f))
     where
       blanks : (k : Bool) → cond k fresh fresh ≡ fresh
       blanks true = refl
@@ -150,7 +150,7 @@ module _ {m : List ℕ} {s : Held} {h : History} (K : Known m s h) where
   erases : (b : ℕ) (s' : Held) (finished : Bool) → step_of (length m) (views m) s fresh ≡ gives (Step.erase b s' finished) → Goes m s (erased m b) s' h finished
   unfolding happen step_due with_state stepped medium_after buffer_after tell finishes is_unfinished
   erases b s' finished e =
-      goes (erased m b) s' h finished (moment (erased m b) (some s') fresh stepped_block) (rw e) refl refl (rw e) (λ f. rw (e, f))
+      goes (erased m b) s' h finished (moment (erased m b) (Some s') fresh stepped_block) (rw e) refl refl (rw e) (λ f. rw (e, f))
 
   sees_program : (p : ℕ) (pg : Page) (s' : Held) (finished : Bool) → step_of (length m) (views m) s fresh ≡ gives (Step.program p pg s' finished)
       → views (programmed m p pg) ≡ set (views m) p (whole pg)
@@ -247,7 +247,7 @@ module _ {m : List ℕ} {s : Held} {h : History} (K : Known m s h) (pend : Pendi
 
     -- the page comes next
     once_only : needs_erase (views (erased m x)) (recording s records₁) ≡ false
-    once_only = erased_recorded (world m (some s) fresh) h x (recording s records₁) K.reached (unfold step_due with_state in erases_first)
+    once_only = erased_recorded (world m (Some s) fresh) h x (recording s records₁) K.reached (unfold step_due with_state in erases_first)
 
     then_writes : Writes (erased m x) (recording s records₁) p pg hd index after (counted h h.under_way) finished
     then_writes =
@@ -354,7 +354,7 @@ pub record CommitDone (m : List ℕ) (s : Held) (j f a b : ℕ) : Type 0 where
   pub m' : List ℕ
   pub s' : Held
   pub h' : History
-  pub run : Finishes (world m (some s) fresh) (world m' (some s') fresh)
+  pub run : Finishes (world m (Some s) fresh) (world m' (Some s') fresh)
   pub knows : Known m' s' h'
   pub rests : s'.pending ≡ idle
   pub indices : s'.index ≡ s.index
@@ -456,7 +456,7 @@ module _ {m : List ℕ} {s : Held} {h : History} (K : Known m s h) (k : ℕ) (e 
         m' = D.m';
         s' = D.s';
         h' = D.h';
-        run = W.goes_on.further refl (world D.m' (some D.s') fresh) D.run;
+        run = W.goes_on.further refl (world D.m' (Some D.s') fresh) D.run;
         knows = D.knows;
         rests = D.rests;
         indices = D.indices;
@@ -480,7 +480,7 @@ commit_runs (suc j) {m} {s} {h} K k f a b e left firsts room F =
 -- the world and the history that its steps lead to: its group is the last of the log
 pub record AppendDone (m : List ℕ) (s : Held) (es : List Entry) : Type 0 where
   pub end : World
-  pub run : Finishes (world m (some s) fresh) end
+  pub run : Finishes (world m (Some s) fresh) end
   pub history : History
   pub reached : Reached end history
   pub in_log_lem : EndsWith es history.log
@@ -579,7 +579,7 @@ pub record CollectDone (m : List ℕ) (s : Held) (h : History) (j : ℕ) : Type 
   pub m' : List ℕ
   pub s' : Held
   pub h' : History
-  pub run : Finishes (world m (some s) fresh) (world m' (some s') fresh)
+  pub run : Finishes (world m (Some s) fresh) (world m' (Some s') fresh)
   pub knows : Known m' s' h'
   pub rests : s'.pending ≡ idle
   pub settings : h'.settings ≡ h.settings
@@ -747,7 +747,7 @@ module _ {m : List ℕ} {s : Held} {h : History} (K : Known m s h) (b : ℕ) (e 
           m' = D.m';
           s' = D.s';
           h' = D.h';
-          run = W.goes_on.further refl (world D.m' (some D.s') fresh) D.run;
+          run = W.goes_on.further refl (world D.m' (Some D.s') fresh) D.run;
           knows = D.knows;
           rests = D.rests;
           settings = D.settings;

@@ -1,6 +1,6 @@
 -- How few operations the dispatcher names, where an append met 13, until that same group is let in.
 use Rattle.std.specs.Prelude.{◌≡◌, Bool, true, false, not, cond, List, [], ◌∷◌, ◌++◌, ℕ, suc, ◌+◌, ◌-◌, ◌^◌, ◌≤◌, length}
-use Rattle.std.proofs.Math.Option.{some}
+use Rattle.std.specs.Prelude.{Some}
 use Rattle.lists.specs.Lists.{Below}
 use Rattle.lists.specs.Needs.{Answer, refused, gives}
 use Rattle.lists.specs.Cells.{Entry}
@@ -51,7 +51,7 @@ pub record Admits (ks ws : List ℕ) (ops : List Next) (w end : World) : Type 0 
   pub named : named_in before ks ws ≡ gives Next.append
   pub begun : Held
   pub begins : append_in before ks ws ≡ gives begun
-  pub finishes : Finishes (world before.medium (some begun) before.buffer) end
+  pub finishes : Finishes (world before.medium (Some begun) before.buffer) end
 
 -- From a world there is one such way at most: the same operations in the same order, to the same world.
 unfoldable pub OneWay : Type 0
@@ -97,7 +97,7 @@ Suffice ks ws w = (ops : List Next) (w' : World) → Leads ks ws ops w w' → na
 -- log's statement, keys have 16 bits and words 64.
 pub record Meets13 (w : World) (h : History) (s : Held) (ks ws : List ℕ) : Type 0 where
   pub reached : Reached w h
-  pub state : w.state ≡ some s
+  pub state : w.state ≡ Some s
   pub empty : w.buffer ≡ fresh
   pub rests : s.pending ≡ idle
   pub met13 : append_of (length w.medium) (views w.medium) s w.buffer ks ws ≡ refused 13

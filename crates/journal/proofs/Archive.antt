@@ -3,7 +3,7 @@
 use mathlib.Core.Path.{◌≡◌, refl, sym, ap, ap₂, subst, ◌∙◌}
 use mathlib.Core.Logic.{◌⊎◌}
 use mathlib.Core.Bool.{true}
-use mathlib.Core.Option.{Option, none, some}
+use Rattle.std.proofs.Common.{Option, None, Some}
 use mathlib.Core.List.{List, [], ◌∷◌, ◌++◌}
 use Prim.Native.Nat.{ℕ, ◌≤◌, ◌<◌}
 use native.Mathlib.Omega.{arith}
@@ -31,7 +31,8 @@ use Rattle.log_reader.specs.Reader.{AskedInTurn, GivesLog, stopped, given, none_
 use Rattle.log_reader.proofs.FirstToLast.{reads_log}
 use Rattle.log_reader.proofs.Form.{answers as asked}
 use Rattle.news.specs.declared.News.{News}
-use Rattle.news.specs.News.{Mark, mark, no_mark, refused_news, news_after, news_of}
+use Rattle.news.specs.declared.Mark.{Mark}
+use Rattle.news.specs.News.{mark, no_mark, refused_news, news_after, news_of}
 use Rattle.valve_log.specs.History.{History, start as no_history, Told, began_commit, tell}
 use Rattle.valve_log.specs.Reached.{World, lent_anew, step_due, Event, happen, finishes, Reached, Shows, Point3}
 use Rattle.valve_log.specs.Reached as reached
@@ -121,7 +122,7 @@ module _ (m : List ℕ) (g : History) (H : Handed m g) (log : List (List Entry))
       filed_back c valves us valves' us' [] [] [] g.settings (H.list r valves us valves' us' c p l) f
       ∙ sym (words_are (views m) (H.settings r p)) ∙ ap (λ (x : Held). words (views m) x.index) (found_state m log s accepts r p)
 
-  read_by_is : (k : Mark) (z : Reading) → ReadBy k m z → read k m ≡ some z
+  read_by_is : (k : Mark) (z : Reading) → ReadBy k m z → read k m ≡ Some z
   unfolding read reading_by
   read_by_is k z (answers n e o l p r q valves us valves' us' c i f) =
       ap (reading_by (news_of k m) (views m)) accepts ∙ rw (← e, o, ← log_read l p, ← settings_read r q valves us valves' us' c i f) refl
@@ -134,7 +135,7 @@ module _ (x : Machine) (h : History) (r : Run x h) where
   handed_run : Handed x.medium h
   handed_run = unfold Point3OfCode in point3_of_code x h r
 
-  run_read : (k : Mark) (z : Reading) → ReadBy k x.medium z → read k x.medium ≡ some z
+  run_read : (k : Mark) (z : Reading) → ReadBy k x.medium z → read k x.medium ≡ Some z
   run_read = read_by_is x.medium h handed_run shows_run.log shows_run.state shows_run.accepts
 
   run_log : (log : List Entry) → LogReadBy x.medium log → log ≡ changes_of h.log
@@ -157,11 +158,11 @@ module _ (x : Machine) (h : History) (r : Run x h) where
       let w = T.number.0 in
       absurd (omega (arith, y, T.recovery b t))
 
-  faded_read : (k : Mark) (m : List ℕ) → Faded x.medium m → (z : Reading) → ReadBy k m z → read k m ≡ some z
+  faded_read : (k : Mark) (m : List ℕ) → Faded x.medium m → (z : Reading) → ReadBy k m z → read k m ≡ Some z
   unfolding FadesOfCode
   faded_read k m f z R = recover_cases (length m) (views m) (λ n e. refused_read k m n f e z R) (λ e. found e (fades_of_code x h r m f))
     where
-      found : every (tests (recover_needs (length m) (views m))) ≡ true → TurnedBackOrHanded r m → read k m ≡ some z
+      found : every (tests (recover_needs (length m) (views m))) ≡ true → TurnedBackOrHanded r m → read k m ≡ Some z
       found e (hands t H) = read_by_is m t.history H.handed _ _ (recovers (length m) (views m) e) k z R
       found e (refuses n T) = accepted_handed k m (recovers (length m) (views m) e) n T z R
 
@@ -172,7 +173,7 @@ record OnList (w : World) (h : History) (made : List (List Entry)) (a : Archive)
   pub made_is : groups_made list ≡ made
   pub filings : Filings w h list a since p later
 
-list_start : (w w' : World) → w' ≡ (happen w Event.step).after → (F : reached.Formatting w) → finishes (step_due w) ≡ true → OnList (lent_anew w') no_history [] nothing_filed [] none []
+list_start : (w w' : World) → w' ≡ (happen w Event.step).after → (F : reached.Formatting w) → finishes (step_due w) ≡ true → OnList (lent_anew w') no_history [] nothing_filed [] None []
 unfolding groups_made
 list_start w w' i F e = rw i (record { list = Reached.start w F e; made_is = refl; filings = archive.start F e })
 
@@ -199,7 +200,7 @@ on_list x h r a since p later (reading {later = l} {p = q} {z = z} C R) =
     let L = on_list x h r a since q l C in
     record { list = L.list; made_is = L.made_is; filings = rw (run_read x h r a.mark z R) at (archive.reading L.filings) }
 on_list x h r a since p later (filing {a = old} {since = s} {z = z} C) =
-    let L = on_list x h r old s (some z) since C in
+    let L = on_list x h r old s (Some z) since C in
     record { list = L.list; made_is = L.made_is; filings = archive.filing L.filings }
 
 pub filed_once_of_code : FiledOnceOfCode

@@ -2,7 +2,7 @@
 -- one of the theorem's lists, and what the theorem says of recovery is what the program is handed.
 use mathlib.Core.Path.{◌≡◌, refl, sym, ap, ap₂, ◌∙◌, subst}
 use mathlib.Core.Bool.{Bool, true, false, not}
-use mathlib.Core.Option.{Option, none, some}
+use Rattle.std.proofs.Common.{Option, None, Some}
 use mathlib.Core.List.{List, [], ◌∷◌}
 use Prim.Native.Nat.{ℕ}
 use native.Mathlib.Omega.{arith}
@@ -52,27 +52,27 @@ none_such n q z = true_false (eq-eqb n 0 z) q
 
 -- a call that begins an operation
 pub begins : (m : List ℕ) (s : State) (b : List ℕ) (t : Told) (c : Answer Held) (r : Begun) → begun.Begins s c r
-    → world m (some (meaning r.state)) b ≡ (called (world m (some (meaning s)) b) t c).after
+    → world m (Some (meaning r.state)) b ≡ (called (world m (Some (meaning s)) b) t c).after
 unfolding called
-begins m s b t (refused n) r p = ap (λ (x : State). world m (some (meaning x)) b) (p.back (none_such r.number (refused_with r.number (meaning r.state) n p.is)))
-begins m s b t (gives h) r p = ap (λ (x : Held). world m (some x) b) (gave_value r.number (meaning r.state) h p.is)
+begins m s b t (refused n) r p = ap (λ (x : State). world m (Some (meaning x)) b) (p.back (none_such r.number (refused_with r.number (meaning r.state) n p.is)))
+begins m s b t (gives h) r p = ap (λ (x : Held). world m (Some x) b) (gave_value r.number (meaning r.state) h p.is)
 
 -- a group put into the buffer
 pub fills : (m : List ℕ) (s : State) (b : List ℕ) (t : Told) (c : Answer (List ℕ)) (r : ℕ) (b' : List ℕ) → begun.filled r b' ≡ begun.filled_by b c
-    → world m (some (meaning s)) b' ≡ (filled (world m (some (meaning s)) b) t c).after
+    → world m (Some (meaning s)) b' ≡ (filled (world m (Some (meaning s)) b) t c).after
 unfolding filled
-fills m s b t (refused n) r b' e = ap (λ (x : begun.Filled). world m (some (meaning s)) x.buffer) e
-fills m s b t (gives c) r b' e = ap (λ (x : begun.Filled). world m (some (meaning s)) x.buffer) e
+fills m s b t (refused n) r b' e = ap (λ (x : begun.Filled). world m (Some (meaning s)) x.buffer) e
+fills m s b t (gives c) r b' e = ap (λ (x : begun.Filled). world m (Some (meaning s)) x.buffer) e
 
 -- what the state holds after what a step's answer says
 unfoldable held_after : Held → Option outcomes.Done → Held
-held_after h none = h
-held_after h (some (outcomes.Done.refused x)) = meaning x.state
-held_after h (some (outcomes.page p finished after)) = after
-held_after h (some (outcomes.block b finished after)) = after
+held_after h None = h
+held_after h (Some (outcomes.Done.refused x)) = meaning x.state
+held_after h (Some (outcomes.page p finished after)) = after
+held_after h (Some (outcomes.block b finished after)) = after
 
 -- an answer that says something says what the state handed back holds
-said : (h : Held) (r : Stepped) (d : outcomes.Done) → done_of r ≡ some d → held_after h (done_of r) ≡ meaning r.state
+said : (h : Held) (r : Stepped) (d : outcomes.Done) → done_of r ≡ Some d → held_after h (done_of r) ≡ meaning r.state
 unfolding done_of touched_by held_after
 said h r d e =
     by_cases (eqb r.number 0)
@@ -83,21 +83,21 @@ said h r d e =
 
 -- a step leaves what its definition says
 left : (m : List ℕ) (s : State) (b : List ℕ) (t : Answer Step)
-    → world (medium_after m t) (some (held_after (meaning s) (some (done s t)))) (buffer_after b t) ≡ (stepped (world m (some (meaning s)) b) t).after
+    → world (medium_after m t) (Some (held_after (meaning s) (Some (done s t)))) (buffer_after b t) ≡ (stepped (world m (Some (meaning s)) b) t).after
 unfolding stepped done medium_after buffer_after held_after
 left m s b (refused n) = refl
 left m s b (gives (Step.program p pg x finished)) = refl
 left m s b (gives (Step.erase c x finished)) = refl
 
 pub steps : (m m' : List ℕ) (s : State) (b b' : List ℕ) (t : Answer Step) (r : Stepped) → outcome r m' ≡ performed m s t → b' ≡ buffer_after b t
-    → world m' (some (meaning r.state)) b' ≡ (stepped (world m (some (meaning s)) b) t).after
+    → world m' (Some (meaning r.state)) b' ≡ (stepped (world m (Some (meaning s)) b) t).after
 unfolding performed
 steps m m' s b b' t r e f =
-    let d : done_of r ≡ some (done s t) = ap (λ (o : Outcome). o.done) e in
+    let d : done_of r ≡ Some (done s t) = ap (λ (o : Outcome). o.done) e in
     let y : m' ≡ medium_after m t = ap (λ (o : Outcome). o.medium) e in
-    let z : meaning r.state ≡ held_after (meaning s) (some (done s t)) = sym (said (meaning s) r (done s t) d) ∙ ap (held_after (meaning s)) d in
-    ap (λ (l : List ℕ). world l (some (meaning r.state)) b') y ∙ ap (λ (x : Held). world (medium_after m t) (some x) b') z
-    ∙ ap (λ (l : List ℕ). world (medium_after m t) (some (held_after (meaning s) (some (done s t)))) l) f ∙ left m s b t
+    let z : meaning r.state ≡ held_after (meaning s) (Some (done s t)) = sym (said (meaning s) r (done s t) d) ∙ ap (held_after (meaning s)) d in
+    ap (λ (l : List ℕ). world l (Some (meaning r.state)) b') y ∙ ap (λ (x : Held). world (medium_after m t) (Some x) b') z
+    ∙ ap (λ (l : List ℕ). world (medium_after m t) (Some (held_after (meaning s) (Some (done s t)))) l) f ∙ left m s b t
 
 -- a recovery
 recovers : (m : List ℕ) (s : Option State) (b : List ℕ) (R : Answer Recovery) (r : Recovered) → answered r.number (meaning r.state) ≡ and_then R (λ x. gives x.state)
@@ -107,7 +107,7 @@ recovers m s b (refused n) r e = rw (refused_with r.number (meaning r.state) n e
 recovers m s b (gives x) r e = rw (eq-eqb r.number 0 (gave_number r.number (meaning r.state) x.state e), gave_value r.number (meaning r.state) x.state e)
 
 -- a cut inside a step
-cuts : (w : World) (left : List ℕ) (t : Answer Step) → reached.CutOf w.medium t left → world left none fresh ≡ (cut_short w left t).after
+cuts : (w : World) (left : List ℕ) (t : Answer Step) → reached.CutOf w.medium t left → world left None fresh ≡ (cut_short w left t).after
 unfolding cut_short reached.CutOf
 cuts w left (refused n) a = absurd a
 cuts w left (gives (Step.program p pg after finished)) a = refl
@@ -125,7 +125,7 @@ moves x y e (Moves.step m m' s b b' r p) = steps m m' s b b' _ r p.does p.leaves
 moves x y e (Moves.recover m s b r p) = recovers m s b _ r p
 moves x y e (Moves.read z) = refl
 moves x y e (Moves.cut m s b) = refl
-moves x y e (Moves.cut_inside m left s b allowed) = cuts (world m (some (meaning s)) b) left _ allowed
+moves x y e (Moves.cut_inside m left s b allowed) = cuts (world m (Some (meaning s)) b) left _ allowed
 
 -- ---- what the answers say
 
@@ -159,16 +159,16 @@ fills_told w b t (gives c) r b' k e = let z : r ≡ 0 = ap (λ (x : begun.Filled
 
 -- what a step's answer says, of what was touched and whether it finished
 unfoldable told_done : Option outcomes.Done → Told
-told_done none = unchanged
-told_done (some (outcomes.Done.refused x)) = unchanged
-told_done (some (outcomes.page p finished after)) = stepped_page
-told_done (some (outcomes.block b finished after)) = stepped_block
+told_done None = unchanged
+told_done (Some (outcomes.Done.refused x)) = unchanged
+told_done (Some (outcomes.page p finished after)) = stepped_page
+told_done (Some (outcomes.block b finished after)) = stepped_block
 
 unfoldable finished_done : Option outcomes.Done → Bool
-finished_done none = false
-finished_done (some (outcomes.Done.refused x)) = false
-finished_done (some (outcomes.page p finished after)) = finished
-finished_done (some (outcomes.block b finished after)) = finished
+finished_done None = false
+finished_done (Some (outcomes.Done.refused x)) = false
+finished_done (Some (outcomes.page p finished after)) = finished
+finished_done (Some (outcomes.block b finished after)) = finished
 
 module _ (r : Stepped) where
   done_told : stepped_by r ≡ told_done (done_of r)
@@ -178,7 +178,7 @@ module _ (r : Stepped) where
       (λ q. by_cases (eqb r.touched 1) (λ k. rw (q, k)) (λ k. by_cases (eqb r.touched 2) (λ l. rw (q, k, l)) (λ l. rw (q, k, l))))
       (λ q. rw q)
 
-  done_finished : (d : outcomes.Done) → done_of r ≡ some d → says_finished r ≡ finished_done (done_of r)
+  done_finished : (d : outcomes.Done) → done_of r ≡ Some d → says_finished r ≡ finished_done (done_of r)
   unfolding says_finished finished_done done_of touched_by
   done_finished d e =
       by_cases (eqb r.number 0)
@@ -187,20 +187,20 @@ module _ (r : Stepped) where
       (λ l. let y = rw (q, k, l) at e in let z : ◌≡◌ {A = ℕ} 0 1 = cc in absurd (omega arith))))
       (λ q. rw q)
 
-due_told : (w : World) (s : State) (t : Answer Step) → told_done (some (done s t)) ≡ (stepped w t).told
+due_told : (w : World) (s : State) (t : Answer Step) → told_done (Some (done s t)) ≡ (stepped w t).told
 unfolding stepped done told_done
 due_told w s (refused n) = refl
 due_told w s (gives (Step.program p pg x finished)) = refl
 due_told w s (gives (Step.erase b x finished)) = refl
 
-due_finished : (s : State) (t : Answer Step) → finished_done (some (done s t)) ≡ finishes t
+due_finished : (s : State) (t : Answer Step) → finished_done (Some (done s t)) ≡ finishes t
 unfolding finishes done finished_done
 due_finished s (refused n) = refl
 due_finished s (gives (Step.program p pg x finished)) = refl
 due_finished s (gives (Step.erase b x finished)) = refl
 
 module _ (m m' : List ℕ) (s : State) (t : Answer Step) (r : Stepped) (e : outcome r m' ≡ performed m s t) where
-  pub done_is : done_of r ≡ some (done s t)
+  pub done_is : done_of r ≡ Some (done s t)
   unfolding performed
   done_is = ap (λ (o : Outcome). o.done) e
 
@@ -290,15 +290,15 @@ module _ (m : List ℕ) (s : Held) (bs : List ℕ) (a : Answers m s bs) where
 
 -- the opening of a valve whose place of the index is given
 unfoldable open_at : List View → ℕ → Option ℕ → Answer ℕ
-open_at v valve none = refused 18
-open_at v valve (some a) = word_or6 (word_at v (cell valve a))
+open_at v valve None = refused 18
+open_at v valve (Some a) = word_or6 (word_at v (cell valve a))
 
 opens : (n : ℕ) (v : List View) (s : Held) (valve : ℕ) (o : Option ℕ) (w : Option ℕ) → size_ok n ≡ true → fit v s ≡ true → lookup valve s.index ≡ o → word_at v (cell valve (value_or 0 o)) ≡ w
     → opening_of n v s valve ≡ open_at v valve o
 unfolding opening_of under open_at word_or6 is_some value_or
-opens n v s valve none w z f e q = rw (z, f, e)
-opens n v s valve (some a) none z f e q = rw (z, f, e, q)
-opens n v s valve (some a) (some x) z f e q = rw (z, f, e, q)
+opens n v s valve None w z f e q = rw (z, f, e)
+opens n v s valve (Some a) None z f e q = rw (z, f, e, q)
+opens n v s valve (Some a) (Some x) z f e q = rw (z, f, e, q)
 
 -- place by place the index opens as the settings have it
 words_open : (v : List View) (valve : ℕ) {index settings : List Cell} → Words v index settings → open_at v valve (lookup valve index) ≡ opening_in (lookup valve settings)
@@ -307,7 +307,7 @@ words_open v valve end = refl
 words_open v valve (more {k} {a} {w} {index} {settings} q t) =
     by_cases (ltb valve k) (λ e. rw e)
     (λ e. by_cases (eqb valve k)
-    (λ f. let z : word_at v (cell valve a) ≡ some w = rw (eqb-true valve k f) q in rw (e, f, z))
+    (λ f. let z : word_at v (cell valve a) ≡ Some w = rw (eqb-true valve k f) q in rw (e, f, z))
     (λ f. rw (e, f) (words_open v valve t)))
 
 -- recovery's answer where the definition accepts
@@ -360,14 +360,14 @@ module _ (m : List ℕ) (h : History) (S : Shows m h) (size : size_ok (length m)
 -- so is one that a list reaches
 module _ (w : World) (h : History) (R : reached.Reached w h) (S : Shows w.medium h) where
   -- the list with this recovery is one more
-  after : (happen w Event.recover).after ≡ world w.medium (some S.state) fresh
+  after : (happen w Event.recover).after ≡ world w.medium (Some S.state) fresh
   unfolding happen recovered
   after = ap (λ (t : Answer Recovery). (recovered w t).after) S.accepts
 
   answers : Answers w.medium S.state fresh
   unfolding Steady
   answers =
-      steady (world w.medium (some S.state) fresh) (tell h (happen w Event.recover).told) S.state
+      steady (world w.medium (Some S.state) fresh) (tell h (happen w Event.recover).told) S.state
       (subst (λ x. reached.Reached x (tell h (happen w Event.recover).told)) after (reached.next w h Event.recover R)) refl
 
   pub size_reached : size_ok (length w.medium) ≡ true

@@ -1,7 +1,7 @@
 -- Paper 4's bound, of the code: the machine goes the way of the world, whatever the calls answer.
 use mathlib.Core.Path.{◌≡◌, refl, sym, ap, subst, ◌∙◌}
 use mathlib.Core.Bool.{true, false}
-use mathlib.Core.Option.{Option, some}
+use Rattle.std.proofs.Common.{Option, Some}
 use mathlib.Core.List.{List}
 use Prim.Native.Nat.{ℕ, ◌^◌}
 use native.Mathlib.Omega.{arith}
@@ -68,27 +68,27 @@ unfinished (refused n) e = refl
 unfinished (gives (Step.program p pg s f)) e = not-true f e
 unfinished (gives (Step.erase b s f)) e = not-true f e
 
-not_refused : {P : Type 0} (s : State) (x : Stepped) (t : Answer Step) → is_unfinished t ≡ true → some (Done.refused x) ≡ some (done s t) → P
+not_refused : {P : Type 0} (s : State) (x : Stepped) (t : Answer Step) → is_unfinished t ≡ true → Some (Done.refused x) ≡ Some (done s t) → P
 unfolding is_unfinished done
 not_refused s x (refused k) u e = true_false u refl
 not_refused s x (gives (Step.program p pg h f)) u e = let y : ◌≡◌ {A = ℕ} 0 1 = cc in absurd (omega arith)
 not_refused s x (gives (Step.erase b h f)) u e = let y : ◌≡◌ {A = ℕ} 0 1 = cc in absurd (omega arith)
 
-says_more : (s : State) (t : Answer Step) (r : Stepped) → done_of r ≡ some (done s t) → says_finished r ≡ finishes t → is_unfinished t ≡ true → (r.number ≡ 0) × (r.finished ≡ false)
+says_more : (s : State) (t : Answer Step) (r : Stepped) → done_of r ≡ Some (done s t) → says_finished r ≡ finishes t → is_unfinished t ≡ true → (r.number ≡ 0) × (r.finished ≡ false)
 unfolding says_finished done_of
 says_more s t r e f u =
     by_cases (eqb r.number 0) (λ q. (eqb-true r.number 0 q, (rw q at f) ∙ unfinished t u))
     (λ q. not_refused s r t u (rw q at e))
 
 module _ (m : List ℕ) (s : State) (b : List ℕ) (r : Stepped) (m' b' : List ℕ) (q : Steps m s b r m' b') where
-  step_after : world_of (machine m' (some r.state) b') ≡ (happen (world_of (machine m (some s) b)) Event.step).after
-  step_after = moves (machine m (some s) b) (machine m' (some r.state) b') Event.step (Moves.step m m' s b b' r q)
+  step_after : world_of (machine m' (Some r.state) b') ≡ (happen (world_of (machine m (Some s) b)) Event.step).after
+  step_after = moves (machine m (Some s) b) (machine m' (Some r.state) b') Event.step (Moves.step m m' s b b' r q)
 
-  step_finishes : says_finished r ≡ finishes (step_due (world_of (machine m (some s) b)))
+  step_finishes : says_finished r ≡ finishes (step_due (world_of (machine m (Some s) b)))
   unfolding finished_by
-  step_finishes = answers_finished (machine m (some s) b) (machine m' (some r.state) b') (Moves.step m m' s b b' r q)
+  step_finishes = answers_finished (machine m (Some s) b) (machine m' (Some r.state) b') (Moves.step m m' s b b' r q)
 
-  step_more : is_unfinished (step_due (world_of (machine m (some s) b))) ≡ true → (r.number ≡ 0) × (r.finished ≡ false)
+  step_more : is_unfinished (step_due (world_of (machine m (Some s) b))) ≡ true → (r.number ≡ 0) × (r.finished ≡ false)
   unfolding step_due with_state meant performed
   step_more u = says_more s (step_of (length m) (views m) (meaning s) b) r (ap (λ (o : Outcome). o.done) q.does) step_finishes u
 
@@ -107,9 +107,9 @@ on {x} {y} e P v q = record { is = q; history = tell P.history (told_by x y e v)
 module _ (ks ws : List ℕ) (narrow : Below (2 ^ 16) ks) (small : Below (2 ^ 64) ws) where
   -- an operation pending is carried to its end
   carried : (i j : ℕ) (then : Stage) (w w' : World) → Finishes w w' → (m : List ℕ) (s : State) (b : List ℕ)
-      → Stands (machine m (some s) b) w
-      → ((m : List ℕ) (s : State) (b : List ℕ) → Stands (machine m (some s) b) w' → LetsIn ks ws i j then (machine m (some s) b))
-      → LetsIn ks ws i j (stepping then) (machine m (some s) b)
+      → Stands (machine m (Some s) b) w
+      → ((m : List ℕ) (s : State) (b : List ℕ) → Stands (machine m (Some s) b) w' → LetsIn ks ws i j then (machine m (Some s) b))
+      → LetsIn ks ws i j (stepping then) (machine m (Some s) b)
   carried i j then w w' (Finishes.last w₁ e) m s b P k =
       LetsIn.last m s b (λ r m' b' q. says_last r (step_finishes m s b r m' b' q ∙ ap (λ (z : World). finishes (step_due z)) P.is ∙ e))
       (λ r m' b' q. k m' r.state b'
@@ -120,7 +120,7 @@ module _ (ks ws : List ℕ) (narrow : Below (2 ^ 16) ks) (small : Below (2 ^ 64)
       (on Event.step P (Moves.step m m' s b b' r q)
       (step_after m s b r m' b' q ∙ ap (λ (z : World). (happen z Event.step).after) P.is)) k)
 
-  module _ (m : List ℕ) (s : State) (b : List ℕ) (w : World) (p : world_of (machine m (some s) b) ≡ w) (op : Next) (n : named_in w ks ws ≡ gives op) where
+  module _ (m : List ℕ) (s : State) (b : List ℕ) (w : World) (p : world_of (machine m (Some s) b) ≡ w) (op : Next) (n : named_in w ks ws ≡ gives op) where
     named_so : next_of (length m) (views m) (meaning s) b ks ws true ≡ gives op
     unfolding named_in with_state meant
     named_so = ap (λ (z : World). named_in z ks ws) p ∙ n
@@ -133,12 +133,12 @@ module _ (ks ws : List ℕ) (narrow : Below (2 ^ 16) ks) (small : Below (2 ^ 64)
     begins_so = named_begins (length m) (views m) (meaning s) b ks ws true op named_so
 
   -- the append begun
-  append_after : (m : List ℕ) (s : State) (b : List ℕ) (w : World) → world_of (machine m (some s) b) ≡ w → (s' : Held) → append_in w ks ws ≡ gives s' → (r : Begun)
-      → Begins s (append_of (length m) (views m) (meaning s) b ks ws) r → world_of (machine m (some r.state) b) ≡ world w.medium (some s') w.buffer
+  append_after : (m : List ℕ) (s : State) (b : List ℕ) (w : World) → world_of (machine m (Some s) b) ≡ w → (s' : Held) → append_in w ks ws ≡ gives s' → (r : Begun)
+      → Begins s (append_of (length m) (views m) (meaning s) b ks ws) r → world_of (machine m (Some r.state) b) ≡ world w.medium (Some s') w.buffer
   unfolding append_in with_state meant
   append_after m s b w p s' o r q =
       let e = q.is ∙ ap (λ (z : World). append_in z ks ws) p ∙ o in
-      ap (λ (k : Held). world m (some k) b) (gave_value r.number (meaning r.state) s' e) ∙ ap (λ (z : World). world z.medium (some s') z.buffer) p
+      ap (λ (k : Held). world m (Some k) b) (gave_value r.number (meaning r.state) s' e) ∙ ap (λ (z : World). world z.medium (Some s') z.buffer) p
 
   -- of a world that two lists lead to there is one log
   same_log : (end : World) (x : Machine) → world_of x ≡ end → (g h : History) → Reached end g → Run x h → g.log ≡ h.log
@@ -150,22 +150,22 @@ module _ (ks ws : List ℕ) (narrow : Below (2 ^ 16) ks) (small : Below (2 ^ 64)
 
   -- the append named where the way ends
   append_way : (w end : World) (s' : Held) → named_in w ks ws ≡ gives Next.append → append_in w ks ws ≡ gives s'
-      → Finishes (world w.medium (some s') w.buffer) end
+      → Finishes (world w.medium (Some s') w.buffer) end
       → (g : History) → Reached end g → EndsWith (zip ks ws) g.log → (m : List ℕ) (s : State) (b : List ℕ)
-      → Stands (machine m (some s) b) w → LetsIn ks ws 0 0 asking (machine m (some s) b)
+      → Stands (machine m (Some s) b) w → LetsIn ks ws 0 0 asking (machine m (Some s) b)
   unfolding written call_of
   append_way w end s' n o F g R E m s b P =
       LetsIn.append m s b (answered_so m s b w P.is Next.append n)
       (λ r q. begun_number s (append_of (length m) (views m) (meaning s) b ks ws) r q (begins_so m s b w P.is Next.append n))
-      (λ r q. carried 0 0 in_log (world w.medium (some s') w.buffer) end F m r.state b
+      (λ r q. carried 0 0 in_log (world w.medium (Some s') w.buffer) end F m r.state b
       (on (Event.append ks ws narrow small) P (Moves.append m s b ks ws narrow small r q) (append_after m s b w P.is s' o r q))
-      (λ m' t b' Q. LetsIn.appended (machine m' (some t) b') Q.history Q.run
-      (subst (EndsWith (zip ks ws)) (same_log end (machine m' (some t) b') Q.is g Q.history R Q.run) E)))
+      (λ m' t b' Q. LetsIn.appended (machine m' (Some t) b') Q.history Q.run
+      (subst (EndsWith (zip ks ws)) (same_log end (machine m' (Some t) b') Q.is g Q.history R Q.run) E)))
 
   ways : (ops : List Next) (w end : World) → Leads ks ws ops w end
-      → ((m : List ℕ) (s : State) (b : List ℕ) → Stands (machine m (some s) b) end → LetsIn ks ws 0 0 asking (machine m (some s) b))
-      → (m : List ℕ) (s : State) (b : List ℕ) → Stands (machine m (some s) b) w
-      → LetsIn ks ws (commits_in ops) (collections_in ops) asking (machine m (some s) b)
+      → ((m : List ℕ) (s : State) (b : List ℕ) → Stands (machine m (Some s) b) end → LetsIn ks ws 0 0 asking (machine m (Some s) b))
+      → (m : List ℕ) (s : State) (b : List ℕ) → Stands (machine m (Some s) b) w
+      → LetsIn ks ws (commits_in ops) (collections_in ops) asking (machine m (Some s) b)
   unfolding written call_of commits_in collections_in
   ways ops w end (here w₁) z m s b P = z m s b P
   ways ops w end (commits {ops = l} w₁ w' end₁ n F A) z m s b P =
@@ -173,21 +173,21 @@ module _ (ks ws : List ℕ) (narrow : Below (2 ^ 16) ks) (small : Below (2 ^ 64)
       (λ r q. begun_number s (commit_of (length m) (views m) (meaning s) b) r q (begins_so m s b w P.is Next.commit n))
       (λ r q. carried (commits_in l) (collections_in l) asking (happen w Event.commit).after w' F m r.state b
       (on Event.commit P (Moves.commit m s b r q)
-      (moves (machine m (some s) b) (machine m (some r.state) b) Event.commit (Moves.commit m s b r q)
+      (moves (machine m (Some s) b) (machine m (Some r.state) b) Event.commit (Moves.commit m s b r q)
       ∙ ap (λ (z : World). (happen z Event.commit).after) P.is)) (ways l w' end A z))
   ways ops w end (collects {ops = l} w₁ w' end₁ x n F A) z m s b P =
       LetsIn.collect m s b x (answered_so m s b w P.is (Next.collect x) n)
       (λ r q. begun_number s (collect_of (length m) (views m) (meaning s) b x) r q (begins_so m s b w P.is (Next.collect x) n))
       (λ r q. carried (commits_in l) (collections_in l) asking (happen w (Event.collect x)).after w' F m r.state b
       (on (Event.collect x) P (Moves.collect m s b x r q)
-      (moves (machine m (some s) b) (machine m (some r.state) b) (Event.collect x) (Moves.collect m s b x r q)
+      (moves (machine m (Some s) b) (machine m (Some r.state) b) (Event.collect x) (Moves.collect m s b x r q)
       ∙ ap (λ (z : World). (happen z (Event.collect x)).after) P.is)) (ways l w' end A z))
 
-  way_in : (ops : List Next) (end : World) (g h : History) (x : Machine) (s : State) → x.state ≡ some s → Run x h
+  way_in : (ops : List Next) (end : World) (g h : History) (x : Machine) (s : State) → x.state ≡ Some s → Run x h
       → Admits ks ws ops (world_of x) end → Reached end g
       → EndsWith (zip ks ws) g.log → LetsIn ks ws (commits_in ops) (collections_in ops) asking x
   way_in ops end g h x s e T A R E =
-      let q : x ≡ machine x.medium (some s) x.buffer = ap (λ (o : Option State). machine x.medium o x.buffer) e in
+      let q : x ≡ machine x.medium (Some s) x.buffer = ap (λ (o : Option State). machine x.medium o x.buffer) e in
       subst (LetsIn ks ws (commits_in ops) (collections_in ops) asking) (sym q)
       (ways ops (world_of x) A.before A.leads (append_way A.before end A.begun A.named A.begins A.finishes g R E)
       x.medium s x.buffer

@@ -1,7 +1,7 @@
 -- Every call's conditions stand in the order of the papers.
 use mathlib.Core.Path.{◌≡◌, refl, sym, ap, ◌∙◌}
 use mathlib.Core.Bool.{Bool, true, false, not, cond, ◌&&◌}
-use mathlib.Core.Option.{Option, none, some}
+use Rattle.std.proofs.Common.{Option, None, Some}
 use mathlib.Core.List.{List, [], ◌∷◌, ◌++◌}
 use Prim.Native.Nat.{ℕ}
 use native.Mathlib.Omega.{arith}
@@ -18,7 +18,8 @@ use Rattle.nodes.specs.Nodes.{sound, live, pick_below}
 use Rattle.state.specs.State.{Pending, idle, append, commit, collect, format, flush, unnamed, Held, pending_fit, fit, is_idle, fit_with, buffered_in}
 use Rattle.flash.specs.Medium.{views}
 use Rattle.recovery.specs.Recovery.{Recovery, recover_needs, recovery_with, recovered_state, recover}
-use Rattle.news.specs.News.{Mark, mark_of, comes_after, news_needs, compared, news_after}
+use Rattle.news.specs.declared.Mark.{Mark}
+use Rattle.news.specs.News.{mark_of, comes_after, news_needs, compared, news_after}
 use Rattle.readings.specs.Readings.{opening_of, last_naming, sought, sought_in, word_needs, word_refusal, pick_of, survey_of, available_of, filed_into, filed_log, read_log, filed_settings, read_settings}
 use Rattle.calls.specs.Calls.{append_needs, append_of, commit_of, collect_of}
 use Rattle.calls.specs.Orders.{numbers_of, refusal_in, InPapersOrder}
@@ -148,8 +149,8 @@ next_refusal_lem n v s b ks ws read =
     (λ e. rw e (same_refusal_in (checked (append_needs n v s b ks ws) _) _ ∙ checked_refusal _ _)))
   where
     picked : (o : Option ℕ) → refusal_in (collection n v s b o) ≡ collection_refusal n v s b o
-    picked none = unfold collection collection_refusal refusal_in and_then answer_or in refl
-    picked (some block) = unfold collection collection_refusal naming collect_of in (same_refusal_in (checked _ _) _ ∙ checked_refusal _ _)
+    picked None = unfold collection collection_refusal refusal_in and_then answer_or in refl
+    picked (Some block) = unfold collection collection_refusal naming collect_of in (same_refusal_in (checked _ _) _ ∙ checked_refusal _ _)
 
 -- ---- all
 
@@ -241,6 +242,6 @@ all_ordered n v s b lists =
       survey = record { first = unfold survey_of in checked_refusal _ _; order = refl };
       available = record { first = unfold available_of in checked_refusal _ _; order = refl };
       word = λ m valve. unfold word_refusal in refl;
-      word_in_buffer = λ m valve i e. word_orders m v s b valve (some i) e ∙ (unfold sought_in in refl);
-      word_in_medium = λ m valve e. word_orders m v s b valve none e ∙ (unfold sought_in in refl);
+      word_in_buffer = λ m valve i e. word_orders m v s b valve (Some i) e ∙ (unfold sought_in in refl);
+      word_in_medium = λ m valve e. word_orders m v s b valve None e ∙ (unfold sought_in in refl);
     }

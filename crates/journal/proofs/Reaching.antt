@@ -1,7 +1,7 @@
 -- Every world reached is one that some run of the code leads to, so that the premise of the bound of the code can be met.
 use mathlib.Core.Path.{◌≡◌, refl, sym, ap, subst, ◌∙◌}
 use mathlib.Core.Bool.{true, false}
-use mathlib.Core.Option.{Option, none, some}
+use Rattle.std.proofs.Common.{Option, None, Some}
 use mathlib.Core.List.{List}
 use Prim.Native.Nat.{ℕ}
 use native.Mathlib.Omega.{arith}
@@ -56,18 +56,18 @@ begin weak w t s (refused n) K = turned n refl
 begin weak w t s (gives h) K =
     begins (record { number = 0; state = state_of h }) (record { is = answered_gives 0 (meaning (state_of h)) refl ∙ ap gives (state_same h K.long); back = λ z. absurd (z refl) })
 
-call_goes : (weak : Weak) (m : List ℕ) (s : State) (b : List ℕ) (e : Event (world_of (machine m (some s) b))) (t : Told) (c : Answer Held)
-    → happen (world_of (machine m (some s) b)) e ≡ called (world_of (machine m (some s) b)) t c → Kept weak (meant (some s))
-    → ((r : Begun) → Begins s c r → Moves (machine m (some s) b) e (machine m (some r.state) b)) → Goes (machine m (some s) b) e
+call_goes : (weak : Weak) (m : List ℕ) (s : State) (b : List ℕ) (e : Event (world_of (machine m (Some s) b))) (t : Told) (c : Answer Held)
+    → happen (world_of (machine m (Some s) b)) e ≡ called (world_of (machine m (Some s) b)) t c → Kept weak (meant (Some s))
+    → ((r : Begun) → Begins s c r → Moves (machine m (Some s) b) e (machine m (Some r.state) b)) → Goes (machine m (Some s) b) e
 call_goes weak m s b e t c q K f =
-    go (begin W (world_of (machine m (some s) b)) t s c (subst (λ (x : Moment). Kept W x.after.state) q (event_kept weak m (meant (some s)) b e K)))
+    go (begin W (world_of (machine m (Some s) b)) t s c (subst (λ (x : Moment). Kept W x.after.state) q (event_kept weak m (meant (Some s)) b e K)))
   where
     W : Weak
-    W = weak_after (world_of (machine m (some s) b)) e weak
+    W = weak_after (world_of (machine m (Some s) b)) e weak
 
-    go : Begin s c → Goes (machine m (some s) b) e
-    go (turned n z) = stays (q ∙ ap (called (world_of (machine m (some s) b)) t) z ∙ (unfold called in refl))
-    go (begins r p) = moves_to (machine m (some r.state) b) (f r p)
+    go : Begin s c → Goes (machine m (Some s) b) e
+    go (turned n z) = stays (q ∙ ap (called (world_of (machine m (Some s) b)) t) z ∙ (unfold called in refl))
+    go (begins r p) = moves_to (machine m (Some r.state) b) (f r p)
 
 data StepGoes (x : Machine) : Type 0 where
   steps_to : (y : Machine) → Moves x Event.step y → StepGoes x
@@ -75,14 +75,14 @@ data StepGoes (x : Machine) : Type 0 where
 
 step_goes : (weak : Weak) (m : List ℕ) (o : Option State) (b : List ℕ) → Kept weak (meant o) → StepGoes (machine m o b)
 unfolding meant step_due with_state Kept
-step_goes weak m none b K = refuses 9 refl
-step_goes weak m (some s) b K = go (step_of (length m) (views m) (meaning s) b) refl (step_careful weak m (meaning s) b K)
+step_goes weak m None b K = refuses 9 refl
+step_goes weak m (Some s) b K = go (step_of (length m) (views m) (meaning s) b) refl (step_careful weak m (meaning s) b K)
   where
-    go : (t : Answer Step) → step_of (length m) (views m) (meaning s) b ≡ t → Careful weak t → StepGoes (machine m (some s) b)
+    go : (t : Answer Step) → step_of (length m) (views m) (meaning s) b ≡ t → Careful weak t → StepGoes (machine m (Some s) b)
     go (refused n) q C = refuses n q
     go (gives st) q C =
         let A = answered m s (gives st) weak C (λ k z. given_refused st k z) in
-        steps_to (machine (medium_after m (gives st)) (some A.answer.state) (buffer_after b (gives st)))
+        steps_to (machine (medium_after m (gives st)) (Some A.answer.state) (buffer_after b (gives st)))
         (Moves.step m (medium_after m (gives st)) s b (buffer_after b (gives st)) A.answer (record { does = A.meets ∙ ap (performed m s) (sym q); leaves = ap (buffer_after b) (sym q) }))
 
 recover_goes : (weak : Weak) (m : List ℕ) (o : Option State) (b : List ℕ) → Kept weak (meant o) → Goes (machine m o b) Event.recover
@@ -99,30 +99,30 @@ recover_goes weak m o b K = go (recover_of (length m) (views m)) refl
 goes : (weak : Weak) (m : List ℕ) (o : Option State) (b : List ℕ) (e : Event (world_of (machine m o b))) → Kept weak (meant o) → Goes (machine m o b) e
 unfolding happen meant with_state stepped step_due CutOf
 goes weak m o b Event.read K = stays refl
-goes weak m o b Event.cut K = moves_to (machine m none fresh) (Moves.cut m o b)
+goes weak m o b Event.cut K = moves_to (machine m None fresh) (Moves.cut m o b)
 goes weak m o b Event.recover K = recover_goes weak m o b K
 goes weak m o b Event.step K = go (step_goes weak m o b K)
   where
     go : StepGoes (machine m o b) → Goes (machine m o b) Event.step
     go (steps_to y v) = moves_to y v
     go (refuses n q) = stays (ap (stepped (world_of (machine m o b))) q)
-goes weak m none b (Event.append ks ws narrow small) K = stays refl
-goes weak m none b Event.commit K = stays refl
-goes weak m none b (Event.collect block) K = stays refl
-goes weak m none b (Event.buffer ks ws narrow small) K = stays refl
-goes weak m none b Event.flush K = stays refl
-goes weak m none b (Event.cut_inside left allowed) K = absurd allowed
-goes weak m (some s) b (Event.append ks ws narrow small) K =
+goes weak m None b (Event.append ks ws narrow small) K = stays refl
+goes weak m None b Event.commit K = stays refl
+goes weak m None b (Event.collect block) K = stays refl
+goes weak m None b (Event.buffer ks ws narrow small) K = stays refl
+goes weak m None b Event.flush K = stays refl
+goes weak m None b (Event.cut_inside left allowed) K = absurd allowed
+goes weak m (Some s) b (Event.append ks ws narrow small) K =
     call_goes weak m s b (Event.append ks ws narrow small) (began_append (zip ks ws)) (append_of (length m) (views m) (meaning s) b ks ws) refl K (Moves.append m s b ks ws narrow small)
-goes weak m (some s) b Event.commit K = call_goes weak m s b Event.commit began_commit (commit_of (length m) (views m) (meaning s) b) refl K (Moves.commit m s b)
-goes weak m (some s) b (Event.collect block) K = call_goes weak m s b (Event.collect block) began_collect (collect_of (length m) (views m) (meaning s) b block) refl K (Moves.collect m s b block)
-goes weak m (some s) b Event.flush K = call_goes weak m s b Event.flush began_flush (flush_of (length m) (views m) (meaning s) b) refl K (Moves.flush m s b)
-goes weak m (some s) b (Event.buffer ks ws narrow small) K = go (buffer_of (length m) (views m) (meaning s) b ks ws) refl
+goes weak m (Some s) b Event.commit K = call_goes weak m s b Event.commit began_commit (commit_of (length m) (views m) (meaning s) b) refl K (Moves.commit m s b)
+goes weak m (Some s) b (Event.collect block) K = call_goes weak m s b (Event.collect block) began_collect (collect_of (length m) (views m) (meaning s) b block) refl K (Moves.collect m s b block)
+goes weak m (Some s) b Event.flush K = call_goes weak m s b Event.flush began_flush (flush_of (length m) (views m) (meaning s) b) refl K (Moves.flush m s b)
+goes weak m (Some s) b (Event.buffer ks ws narrow small) K = go (buffer_of (length m) (views m) (meaning s) b ks ws) refl
   where
-    go : (c : Answer (List ℕ)) → buffer_of (length m) (views m) (meaning s) b ks ws ≡ c → Goes (machine m (some s) b) (Event.buffer ks ws narrow small)
-    go (refused n) q = moves_to (machine m (some s) b) (Moves.buffer m s b ks ws narrow small n b (ap (filled_by b) (sym q)))
-    go (gives b') q = moves_to (machine m (some s) b') (Moves.buffer m s b ks ws narrow small 0 b' (ap (filled_by b) (sym q)))
-goes weak m (some s) b (Event.cut_inside left allowed) K = moves_to (machine left none fresh) (Moves.cut_inside m left s b allowed)
+    go : (c : Answer (List ℕ)) → buffer_of (length m) (views m) (meaning s) b ks ws ≡ c → Goes (machine m (Some s) b) (Event.buffer ks ws narrow small)
+    go (refused n) q = moves_to (machine m (Some s) b) (Moves.buffer m s b ks ws narrow small n b (ap (filled_by b) (sym q)))
+    go (gives b') q = moves_to (machine m (Some s) b') (Moves.buffer m s b ks ws narrow small 0 b' (ap (filled_by b) (sym q)))
+goes weak m (Some s) b (Event.cut_inside left allowed) K = moves_to (machine left None fresh) (Moves.cut_inside m left s b allowed)
 
 -- ---- formatting
 
@@ -147,8 +147,8 @@ formats_to w (reached.Formatting.begun m s b bytes e) =
     let G = begun_guard (λ k. true) (length m) s e in
     let same = state_same s G.long in
     record {
-      x = machine m (some (state_of s)) b;
-      is = ap (λ (h : Held). world m (some h) b) same;
+      x = machine m (Some (state_of s)) b;
+      is = ap (λ (h : Held). world m (Some h) b) same;
       under_way_lem =
           Formatting.begun m (record { number = 0; state = state_of s }) b bytes
           (record { is = answered_gives 0 (meaning (state_of s)) refl ∙ ap gives same ∙ sym e; back = λ z. absurd (z refl) }) refl;
@@ -227,19 +227,19 @@ supply_of : (m : List ℕ) (s : State) (c : Answer ℕ) → available_of (length
 supply_of m s (refused n) q f = absurd (f n refl)
 supply_of m s (gives k) q f = record { supply = record { number = 0; pages = k }; supplies = (unfold supplied in ap supplied (sym q)); accepted = refl }
 
-module _ (m : List ℕ) (s : State) (b : List ℕ) (h : History) (R : Run (machine m (some s) b) h) (t : Held) (ks ws : List ℕ) (M : Meets13 (world_of (machine m (some s) b)) h t ks ws) where
+module _ (m : List ℕ) (s : State) (b : List ℕ) (h : History) (R : Run (machine m (Some s) b) h) (t : Held) (ks ws : List ℕ) (M : Meets13 (world_of (machine m (Some s) b)) h t ks ws) where
   holds : meaning s ≡ t
   unfolding meant
-  holds = let z : some (meaning s) ≡ some t = M.state in cc
+  holds = let z : Some (meaning s) ≡ Some t = M.state in cc
 
   never : (n : ℕ) → available_of (length m) (views m) (meaning s) ≡ refused n → ⊥
   unfolding Steady meant
-  never = (steady (world_of (machine m (some s) b)) h (meaning s) M.reached refl).available
+  never = (steady (world_of (machine m (Some s) b)) h (meaning s) M.reached refl).available
 
   abbrev supplied_by : Supply m s
   supplied_by = supply_of m s (available_of (length m) (views m) (meaning s)) refl never
 
-  meets_code : Answers13 (machine m (some s) b) h s ks ws
+  meets_code : Answers13 (machine m (Some s) b) h s ks ws
   meets_code =
       record {
         run = R;
@@ -266,8 +266,8 @@ module _ (m : List ℕ) (s : State) (b : List ℕ) (h : History) (R : Run (machi
 arises_in_run : (n : ℕ) (m : List ℕ) (o : Option State) (b : List ℕ) (h : History) (t : Held) (ks ws : List ℕ) → Run (machine m o b) h → length m ≡ n
     → Meets13 (world_of (machine m o b)) h t ks ws → Suffice ks ws (world_of (machine m o b)) → ArisesInRun n
 unfolding meant
-arises_in_run n m none b h t ks ws R l M S = let z : none ≡ some t = M.state in let y : ◌≡◌ {A = ℕ} 0 1 = cc in absurd (omega arith)
-arises_in_run n m (some s) b h t ks ws R l M S = record { x = machine m (some s) b; h = h; s = s; ks = ks; ws = ws; size = l; met = meets_code m s b h R t ks ws M; serials = S }
+arises_in_run n m None b h t ks ws R l M S = let z : None ≡ Some t = M.state in let y : ◌≡◌ {A = ℕ} 0 1 = cc in absurd (omega arith)
+arises_in_run n m (Some s) b h t ks ws R l M S = record { x = machine m (Some s) b; h = h; s = s; ks = ks; ws = ws; size = l; met = meets_code m s b h R t ks ws M; serials = S }
 
 pub possible_of_code : PossibleOfCode
 unfolding PossibleOfCode Possible

@@ -1,7 +1,7 @@
 -- A run of the code can start on every medium of allowed length.
 use mathlib.Core.Path.{◌≡◌, refl, sym, ap, subst, ◌∙◌}
 use mathlib.Core.Bool.{Bool, true, false}
-use mathlib.Core.Option.{some}
+use Rattle.std.proofs.Common.{Some}
 use mathlib.Core.List.{List, []}
 use Prim.Native.Nat.{ℕ, zero, suc, ◌/◌, ◌≤◌, ◌<◌}
 use native.Mathlib.Omega.{arith}
@@ -36,7 +36,7 @@ use Rattle.journal.proofs.Chain.{moves, answers_meanwhile, answers_finished}
 
 module _ (m : List ℕ) (bytes : Bytes m) (F : Finished m) where
   abbrev world_at : ℕ → World
-  world_at n = steps_on n (world m (some F.state) fresh)
+  world_at n = steps_on n (world m (Some F.state) fresh)
 
   -- after n steps formatting is under way, in the world that the definitions lead to
   record Way (n : ℕ) (x : Machine) : Type 0 where
@@ -53,17 +53,17 @@ module _ (m : List ℕ) (bytes : Bytes m) (F : Finished m) where
       let e = p.is ∙ F.begun in
       record {
         under_way_lem = Formatting.begun m r fresh bytes p (gave_number r.number (meaning r.state) F.state e);
-        is = ap (λ (s : Held). world m (some s) fresh) (gave_value r.number (meaning r.state) F.state e);
+        is = ap (λ (s : Held). world m (Some s) fresh) (gave_value r.number (meaning r.state) F.state e);
       }
   way n x (Formatted.step k now after b b' s r G p) h =
-      let W = way k (machine now (some s) b) G (omega arith) in
-      let v : Moves (machine now (some s) b) Event.step (machine after (some r.state) b') = Moves.step now after s b b' r p in
+      let W = way k (machine now (Some s) b) G (omega arith) in
+      let v : Moves (machine now (Some s) b) Event.step (machine after (Some r.state) b') = Moves.step now after s b b' r p in
       record {
         under_way_lem =
-            Formatting.next (machine now (some s) b) (machine after (some r.state) b') Event.step W.under_way_lem v
-            (answers_meanwhile (machine now (some s) b) (machine after (some r.state) b') Event.step v ∙ stands k (machine now (some s) b) W.is (omega arith));
+            Formatting.next (machine now (Some s) b) (machine after (Some r.state) b') Event.step W.under_way_lem v
+            (answers_meanwhile (machine now (Some s) b) (machine after (Some r.state) b') Event.step v ∙ stands k (machine now (Some s) b) W.is (omega arith));
         is =
-            moves (machine now (some s) b) (machine after (some r.state) b') Event.step v
+            moves (machine now (Some s) b) (machine after (Some r.state) b') Event.step v
             ∙ ap (λ (w : World). (happen w Event.step).after) W.is;
       }
 
@@ -71,10 +71,10 @@ module _ (m : List ℕ) (bytes : Bytes m) (F : Finished m) where
   runs_then n x (Formatted.begun r p) e = absurd (omega arith)
   runs_then n x (Formatted.step k now after b b' s r G p) e =
       let q : k ≡ length m / 4096 = omega arith in
-      let W = way k (machine now (some s) b) G (omega arith) in
-      let v : Moves (machine now (some s) b) Event.step (machine after (some r.state) b') = Moves.step now after s b b' r p in
-      Run.start (machine now (some s) b) (machine after (some r.state) b') W.under_way_lem v
-      (answers_finished (machine now (some s) b) (machine after (some r.state) b') v
+      let W = way k (machine now (Some s) b) G (omega arith) in
+      let v : Moves (machine now (Some s) b) Event.step (machine after (Some r.state) b') = Moves.step now after s b b' r p in
+      Run.start (machine now (Some s) b) (machine after (Some r.state) b') W.under_way_lem v
+      (answers_finished (machine now (Some s) b) (machine after (Some r.state) b') v
       ∙ ap (λ (w : World). finishes (step_due w)) (W.is ∙ ap world_at q) ∙ F.last)
 
 -- ---- answers that meet the promises
@@ -200,7 +200,7 @@ answered m s (gives (Step.program p pg h finished)) weak C f =
       answer = page_done p finished (state_of h);
       weak = S.weak;
       guard = S.guard;
-      meets = ap (λ (x : Held). record { done = some (page p finished x); medium = medium_after m (gives (Step.program p pg h finished)) }) S.is;
+      meets = ap (λ (x : Held). record { done = Some (page p finished x); medium = medium_after m (gives (Step.program p pg h finished)) }) S.is;
     }
 answered m s (gives (Step.erase b h finished)) weak C f =
     let S = standing (after_erase b false weak) h C in
@@ -208,7 +208,7 @@ answered m s (gives (Step.erase b h finished)) weak C f =
       answer = record { number = 0; touched = 2; finished = finished; at = b; state = state_of h };
       weak = S.weak;
       guard = S.guard;
-      meets = ap (λ (x : Held). record { done = some (block b finished x); medium = medium_after m (gives (Step.erase b h finished)) }) S.is;
+      meets = ap (λ (x : Held). record { done = Some (block b finished x); medium = medium_after m (gives (Step.erase b h finished)) }) S.is;
     }
 
 module _ (m : List ℕ) (bytes : Bytes m) (F : Finished m) where
@@ -218,7 +218,7 @@ module _ (m : List ℕ) (bytes : Bytes m) (F : Finished m) where
     pub state : State
     pub weak : Weak
     pub guard : Guard weak (meaning state)
-    pub formatted : Formatted m n (machine now (some state) buffer)
+    pub formatted : Formatted m n (machine now (Some state) buffer)
 
   begun_there : There 0
   begun_there =
@@ -234,7 +234,7 @@ module _ (m : List ℕ) (bytes : Bytes m) (F : Finished m) where
             (record { is = answered_gives 0 (meaning (state_of F.state)) refl ∙ ap gives S.is ∙ sym F.begun; back = λ z. absurd (z refl) });
       }
 
-  due_accepted : (n : ℕ) (now b : List ℕ) (s : State) → world_of (machine now (some s) b) ≡ world_at m bytes F n → n ≤ length m / 4096
+  due_accepted : (n : ℕ) (now b : List ℕ) (s : State) → world_of (machine now (Some s) b) ≡ world_at m bytes F n → n ≤ length m / 4096
       → (k : ℕ) → step_of (length now) (views now) (meaning s) b ≡ refused k → ⊥
   unfolding step_due with_state meant
   due_accepted n now b s e h k q = F.accepted n k h (sym (ap step_due e) ∙ q)
@@ -243,7 +243,7 @@ module _ (m : List ℕ) (bytes : Bytes m) (F : Finished m) where
   there zero h = begun_there
   there (suc n) h =
       let T = there n (omega arith) in
-      let W = way m bytes F n (machine T.now (some T.state) T.buffer) T.formatted (omega arith) in
+      let W = way m bytes F n (machine T.now (Some T.state) T.buffer) T.formatted (omega arith) in
       let t = step_of (length T.now) (views T.now) (meaning T.state) T.buffer in
       let C = step_careful T.weak T.now (meaning T.state) T.buffer T.guard in
       let A = answered T.now T.state t T.weak C (due_accepted n T.now T.buffer T.state W.is (omega arith)) in
@@ -263,6 +263,6 @@ runs_start m bytes size =
     let T = there m bytes F (suc (length m / 4096)) (omega arith) in
     record {
       whatever = λ x G. runs_then m bytes F (suc (length m / 4096)) x G refl;
-      then = machine T.now (some T.state) T.buffer;
+      then = machine T.now (Some T.state) T.buffer;
       answered = T.formatted;
     }

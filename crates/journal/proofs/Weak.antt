@@ -1,7 +1,7 @@
 -- No step of the code programs a page into a weak block.
 use mathlib.Core.Path.{◌≡◌, sym, ap, subst, ◌∙◌}
 use mathlib.Core.Bool.{Bool, false}
-use mathlib.Core.Option.{Option, none, some}
+use Rattle.std.proofs.Common.{Option, None, Some}
 use mathlib.Core.List.{List}
 use Prim.Native.Nat.{ℕ, ◌/◌}
 use native.Mathlib.Omega.{arith}
@@ -39,10 +39,10 @@ run_kept weak x h (Run.start z y F v last) = moves_kept (weak_in_format weak z F
 run_kept weak x h (Run.next z y k e R v) = moves_kept (weak_in weak z k R) z y e v (run_kept weak z k R)
 run_kept weak x h (Run.taken_over b) = unfold meant Kept in tt
 
-kept_guard : (weak : Weak) (o : Option State) (s : State) → o ≡ some s → Kept weak (meant o) → Guard weak (meaning s)
+kept_guard : (weak : Weak) (o : Option State) (s : State) → o ≡ Some s → Kept weak (meant o) → Guard weak (meaning s)
 unfolding meant Kept
-kept_guard weak none s e K = let z : ◌≡◌ {A = ℕ} 0 1 = cc in absurd (omega arith)
-kept_guard weak (some t) s e K = let q : t ≡ s = cc in rw q at K
+kept_guard weak None s e K = let z : ◌≡◌ {A = ℕ} 0 1 = cc in absurd (omega arith)
+kept_guard weak (Some t) s e K = let q : t ≡ s = cc in rw q at K
 
 -- ---- a step that tells of a page is one that programs it
 
@@ -52,19 +52,19 @@ page_careful weak s (refused n) p f h e C = let z : ◌≡◌ {A = ℕ} 0 1 = cc
 page_careful weak s (gives (Step.program q pg a g)) p f h e C = let z : p ≡ q = cc in rw z C.0
 page_careful weak s (gives (Step.erase b a g)) p f h e C = let z : ◌≡◌ {A = ℕ} 0 1 = cc in absurd (omega arith)
 
-told_page : (r : Stepped) → r.number ≡ 0 → r.touched ≡ 1 → done_of r ≡ some (page r.at r.finished (meaning r.state))
+told_page : (r : Stepped) → r.number ≡ 0 → r.touched ≡ 1 → done_of r ≡ Some (page r.at r.finished (meaning r.state))
 unfolding done_of touched_by
 told_page r n t = rw (eq-eqb r.number 0 n, eq-eqb r.touched 1 t)
 
-step_strong : (weak : Weak) (m : List ℕ) (o : Option State) (s : State) (bs : List ℕ) (r : Stepped) (after left : List ℕ) → Kept weak (meant o) → o ≡ some s → Steps m s bs r after left → r.number ≡ 0
+step_strong : (weak : Weak) (m : List ℕ) (o : Option State) (s : State) (bs : List ℕ) (r : Stepped) (after left : List ℕ) → Kept weak (meant o) → o ≡ Some s → Steps m s bs r after left → r.number ≡ 0
     → r.touched ≡ 1 → weak (r.at / 16) ≡ false
 unfolding performed
 step_strong weak m o s bs r after left K e w n t =
-    let d : done_of r ≡ some (done s (step_of (length m) (views m) (meaning s) bs)) = ap (λ (x : Outcome). x.done) w.does in
+    let d : done_of r ≡ Some (done s (step_of (length m) (views m) (meaning s) bs)) = ap (λ (x : Outcome). x.done) w.does in
     let q : page r.at r.finished (meaning r.state) ≡ done s (step_of (length m) (views m) (meaning s) bs) = same (sym (told_page r n t) ∙ d) in
     page_careful weak s (step_of (length m) (views m) (meaning s) bs) r.at r.finished (meaning r.state) q (step_careful weak m (meaning s) bs (kept_guard weak o s e K))
   where
-    same : {A : Type 0} {x y : A} → some x ≡ some y → x ≡ y
+    same : {A : Type 0} {x y : A} → Some x ≡ Some y → x ≡ y
     same k = cc
 
 pub never_weak_of_code : NeverWeakOfCode

@@ -1,11 +1,12 @@
 -- The user's archive (docs/USING.md, "The archive's morning"), of the code: beside a program's run, in which the power fails anywhere, it reads and files by
 -- the answers of `vj_news`, of `vj_log` or the log reader, of `vj_recover` and of `vj_settings`. Each call is known by its promise alone.
 use Rattle.std.specs.Prelude.{◌≡◌, Bool, true, false, not, cond, ◌||◌, ◌⊎◌, List, [], ◌∷◌, ◌++◌, ℕ, ◌≤◌, drop}
-use Rattle.std.proofs.Math.Option.{Option, none, some}
+use Rattle.std.specs.Prelude.{Option, None, Some}
 use Rattle.lists.specs.Cells.{cell, Entry, pairs}
 use Rattle.page.specs.Pages.{changes_of}
 use Rattle.news.specs.declared.News.{News}
-use Rattle.news.specs.News.{Mark, mark, no_mark, news_of}
+use Rattle.news.specs.declared.Mark.{Mark}
+use Rattle.news.specs.News.{mark, no_mark, news_of}
 use Rattle.recover.specs.declared.Recovered.{Recovered}
 use Rattle.recover.specs.Recovers.{Recovers}
 use Rattle.filing.specs.declared.Counted.{Counted}
@@ -54,17 +55,17 @@ pub data ReadBy (filed : Mark) (m : List ℕ) : Reading → Type 0 where
 -- it first reads and files the whole log, with the mark of zeros.
 pub data FilingsRun : (x : Machine) (h : History) → Run x h → Archive → List (List Entry) → Option Reading → List (List Entry) → Type 0 where
   start : {x y : Machine} (f : Formatting x) (v : Moves x Event.step y) (last : finished_by x y v ≡ true)
-      → FilingsRun (machine y.medium y.state fresh) no_history (Run.start x y f v last) nothing_filed [] none []
+      → FilingsRun (machine y.medium y.state fresh) no_history (Run.start x y f v last) nothing_filed [] None []
   taken_over : {w : World} {h : History} (b : Before w h) (before : List Entry) {z : Reading}
       → before ++ changes_of h.log ≡ changes_of (groups_made_before b) → ReadBy no_mark w.medium z
-      → FilingsRun (starting_on w) h (Run.taken_over b) (file (archive before [] no_mark) z) [] none []
+      → FilingsRun (starting_on w) h (Run.taken_over b) (file (archive before [] no_mark) z) [] None []
   move : {x y : Machine} {h : History} {r : Run x h} {a : Archive} {since later : List (List Entry)} {p : Option Reading} {e : Event (world_of x)} (v : Moves x e y)
       → FilingsRun x h r a since p later → (told_by x y e v ≡ began_commit → since ≡ [])
       → FilingsRun y (tell h (told_by x y e v)) (Run.next x y h e r v) a (since ++ groups_counting h (told_by x y e v)) p (later ++ groups_counting h (told_by x y e v))
   reading : {x : Machine} {h : History} {r : Run x h} {a : Archive} {since later : List (List Entry)} {p : Option Reading} {z : Reading}
-      → FilingsRun x h r a since p later → ReadBy a.mark x.medium z → FilingsRun x h r a since (some z) []
+      → FilingsRun x h r a since p later → ReadBy a.mark x.medium z → FilingsRun x h r a since (Some z) []
   filing : {x : Machine} {h : History} {r : Run x h} {a : Archive} {since later : List (List Entry)} {z : Reading}
-      → FilingsRun x h r a since (some z) later → FilingsRun x h r (file a z) later none []
+      → FilingsRun x h r a since (Some z) later → FilingsRun x h r (file a z) later None []
 
 -- All that was filed, and then what has counted since, is all that was made, in the order in which it counted; and the settings filed last are what all filed
 -- changes lead to.

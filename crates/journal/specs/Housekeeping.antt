@@ -1,7 +1,7 @@
 -- Housekeeping as a program does it: it asks `next`, says that the log has been read, makes the call named and its steps, and asks again, until
 -- the append of its group is finished.
 use Rattle.std.specs.Prelude.{◌≡◌, true, false, List, ℕ, suc, ◌+◌, ◌-◌, ◌^◌, ◌≤◌, length}
-use Rattle.std.proofs.Math.Option.{some}
+use Rattle.std.specs.Prelude.{Some}
 use Rattle.lists.specs.Lists.{Below}
 use Rattle.blocks.specs.Blocks.{size_ok}
 use Rattle.page.specs.Pages.{pages_for}
@@ -38,25 +38,25 @@ pub data Stage : Type 0 where
 -- this log. The numbers count the commits and the collections.
 pub data LetsIn (ks ws : List ℕ) : ℕ → ℕ → Stage → Machine → Type 0 where
   append : (m : List ℕ) (s : State) (b : List ℕ) → ((r : NextOperation) → Names m s b ks ws true r → r ≡ operation_named 1 0)
-      → ((r : Begun) → Appends m s b ks ws r → r.number ≡ 0) → ((r : Begun) → Appends m s b ks ws r → LetsIn ks ws 0 0 (stepping in_log) (machine m (some r.state) b))
-      → LetsIn ks ws 0 0 asking (machine m (some s) b)
+      → ((r : Begun) → Appends m s b ks ws r → r.number ≡ 0) → ((r : Begun) → Appends m s b ks ws r → LetsIn ks ws 0 0 (stepping in_log) (machine m (Some r.state) b))
+      → LetsIn ks ws 0 0 asking (machine m (Some s) b)
   commit : {i j : ℕ} (m : List ℕ) (s : State) (b : List ℕ) → ((r : NextOperation) → Names m s b ks ws true r → r ≡ operation_named 2 0)
-      → ((r : Begun) → Commits m s b r → r.number ≡ 0) → ((r : Begun) → Commits m s b r → LetsIn ks ws i j (stepping asking) (machine m (some r.state) b))
-      → LetsIn ks ws (suc i) j asking (machine m (some s) b)
+      → ((r : Begun) → Commits m s b r → r.number ≡ 0) → ((r : Begun) → Commits m s b r → LetsIn ks ws i j (stepping asking) (machine m (Some r.state) b))
+      → LetsIn ks ws (suc i) j asking (machine m (Some s) b)
   collect : {i j : ℕ} (m : List ℕ) (s : State) (b : List ℕ) (block : ℕ) → ((r : NextOperation) → Names m s b ks ws true r → r ≡ operation_named 3 block)
-      → ((r : Begun) → Collects m s b block r → r.number ≡ 0) → ((r : Begun) → Collects m s b block r → LetsIn ks ws i j (stepping asking) (machine m (some r.state) b))
-      → LetsIn ks ws i (suc j) asking (machine m (some s) b)
+      → ((r : Begun) → Collects m s b block r → r.number ≡ 0) → ((r : Begun) → Collects m s b block r → LetsIn ks ws i j (stepping asking) (machine m (Some r.state) b))
+      → LetsIn ks ws i (suc j) asking (machine m (Some s) b)
   step : {i j : ℕ} {then : Stage} (m : List ℕ) (s : State) (b : List ℕ) → ((r : Stepped) (m' b' : List ℕ) → Steps m s b r m' b' → (r.number ≡ 0) × (r.finished ≡ false))
-      → ((r : Stepped) (m' b' : List ℕ) → Steps m s b r m' b' → LetsIn ks ws i j (stepping then) (machine m' (some r.state) b')) → LetsIn ks ws i j (stepping then) (machine m (some s) b)
+      → ((r : Stepped) (m' b' : List ℕ) → Steps m s b r m' b' → LetsIn ks ws i j (stepping then) (machine m' (Some r.state) b')) → LetsIn ks ws i j (stepping then) (machine m (Some s) b)
   last : {i j : ℕ} {then : Stage} (m : List ℕ) (s : State) (b : List ℕ) → ((r : Stepped) (m' b' : List ℕ) → Steps m s b r m' b' → (r.number ≡ 0) × (r.finished ≡ true))
-      → ((r : Stepped) (m' b' : List ℕ) → Steps m s b r m' b' → LetsIn ks ws i j then (machine m' (some r.state) b')) → LetsIn ks ws i j (stepping then) (machine m (some s) b)
+      → ((r : Stepped) (m' b' : List ℕ) → Steps m s b r m' b' → LetsIn ks ws i j then (machine m' (Some r.state) b')) → LetsIn ks ws i j (stepping then) (machine m (Some s) b)
   appended : (x : Machine) (h : History) → Run x h → EndsWith (zip ks ws) h.log → LetsIn ks ws 0 0 in_log x
 
 -- Along a program's run, with the state last handed back and an empty buffer: "an append met 13 with at least 16 pages available", as the answers of
 -- `append` and `available` say, "no operation is pending". Keys have 16 bits and words 64.
 pub record Answers13 (x : Machine) (h : History) (s : State) (ks ws : List ℕ) : Type 0 where
   pub run : Run x h
-  pub state : x.state ≡ some s
+  pub state : x.state ≡ Some s
   pub empty : x.buffer ≡ fresh
   pub rests : s.operation ≡ 0
   pub answer : Begun

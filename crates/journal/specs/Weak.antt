@@ -1,6 +1,6 @@
 -- Weak blocks along a program's run: no step of the code programs a page into one.
 use Rattle.std.specs.Prelude.{◌≡◌, false, List, ℕ, ◌/◌}
-use Rattle.std.proofs.Math.Option.{some}
+use Rattle.std.specs.Prelude.{Some}
 use Rattle.state.specs.declared.State.{State}
 use Rattle.operations.specs.declared.Stepped.{Stepped}
 use Rattle.advance.specs.Outcomes.{Steps}
@@ -24,6 +24,6 @@ weak_in weak x h (Run.taken_over b) = weak
 -- weak; whichever blocks were where formatting, or the run, began.
 pub record NeverWeakOfCode : Type 0 where
   pub in_format : (weak : Weak) (x : Machine) (F : Formatting x) (s : State) (r : Stepped) (after buffer : List ℕ)
-      → x.state ≡ some s → Steps x.medium s x.buffer r after buffer → r.number ≡ 0 → r.touched ≡ 1 → weak_in_format weak x F (r.at / 16) ≡ false
+      → x.state ≡ Some s → Steps x.medium s x.buffer r after buffer → r.number ≡ 0 → r.touched ≡ 1 → weak_in_format weak x F (r.at / 16) ≡ false
   pub in_run : (weak : Weak) (x : Machine) (h : History) (R : Run x h) (s : State) (r : Stepped) (after buffer : List ℕ)
-      → x.state ≡ some s → Steps x.medium s x.buffer r after buffer → r.number ≡ 0 → r.touched ≡ 1 → weak_in weak x h R (r.at / 16) ≡ false
+      → x.state ≡ Some s → Steps x.medium s x.buffer r after buffer → r.number ≡ 0 → r.touched ≡ 1 → weak_in weak x h R (r.at / 16) ≡ false

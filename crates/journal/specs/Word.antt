@@ -1,7 +1,7 @@
 -- The word's part along a program's run, with the state last handed back and the buffer as it is lent: it is the word that the history's settings
 -- have once the buffered groups are in.
 use Rattle.std.specs.Prelude.{◌≡◌, List, [], ℕ}
-use Rattle.std.proofs.Math.Option.{Option, none, some}
+use Rattle.std.specs.Prelude.{Option, None, Some}
 use Rattle.codec.specs.Codec.{bytes_of}
 use Rattle.flash.specs.Medium.{views}
 use Rattle.index.specs.Index.{lookup}
@@ -21,13 +21,13 @@ word_handed n bs = record { number = n; bytes = bs }
 
 -- "the eight bytes of a valve's word" that is set; 18 and no byte where it is not
 unfoldable pub word_in : Option ℕ → WordHanded
-word_in none = word_handed 18 []
-word_in (some w) = word_handed 0 (bytes_of 8 w)
+word_in None = word_handed 18 []
+word_in (Some w) = word_handed 0 (bytes_of 8 w)
 
 -- whatever the two calls give, of which nothing is known but the promises of `word` and `word_refusal`
 unfoldable pub WordToldOfCode : Type 0
 WordToldOfCode =
-    (x : Machine) (h : History) (s : State) (valve number : ℕ) (bytes : List ℕ) → Run x h → x.state ≡ some s
+    (x : Machine) (h : History) (s : State) (valve number : ℕ) (bytes : List ℕ) → Run x h → x.state ≡ Some s
     → number ≡ word_refusal x.medium (views x.medium) (meaning s) x.buffer valve
     → bytes ≡ word_part x.medium (views x.medium) (meaning s) x.buffer valve
     → word_handed number bytes ≡ word_in (lookup valve (assign_groups h.settings h.buffered))

@@ -1,7 +1,7 @@
 -- The examples by computation over pages: the table's journals tell the worlds.
 use mathlib.Core.Path.{◌≡◌, refl, sym, ap, ◌∙◌}
 use mathlib.Core.Bool.{true, false}
-use mathlib.Core.Option.{some}
+use Rattle.std.proofs.Common.{Some}
 use mathlib.Core.List.{List, [], ◌∷◌}
 use Prim.Native.Nat.{ℕ, suc, ◌/◌, ◌*◌, ◌+◌, ◌^◌, ◌<◌}
 use native.Mathlib.Omega.{arith}
@@ -156,22 +156,22 @@ module _ (m : List ℕ) (b : Bytes m) (l : length m ≡ 16384) (s : Held) (f : f
   unfolding size_ok every
   size_ok_lem = ap size_ok long
 
-  world_is : steps_on 5 (world m (some s) fresh) ≡ steps_on 5 unerased
+  world_is : steps_on 5 (world m (Some s) fresh) ≡ steps_on 5 unerased
   unfolding FormattedAlike
   world_is =
-      ap (λ (n : ℕ). steps_on (suc n) (world m (some s) fresh)) (sym four)
+      ap (λ (n : ℕ). steps_on (suc n) (world m (Some s) fresh)) (sym four)
       ∙ formatted_alike unformatted m (zero_bytes 16384) b size_ok_lem same_length s begun_alike
-      ∙ ap (λ (n : ℕ). steps_on (suc n) (world unformatted (some s) fresh)) four
-      ∙ ap (λ (x : Held). steps_on 5 (world unformatted (some x) fresh)) state_is
+      ∙ ap (λ (n : ℕ). steps_on (suc n) (world unformatted (Some s) fresh)) four
+      ∙ ap (λ (x : Held). steps_on 5 (world unformatted (Some x) fresh)) state_is
 
-  formatted_reached : Reached (lent_anew (steps_on 5 (world m (some s) fresh))) no_history
+  formatted_reached : Reached (lent_anew (steps_on 5 (world m (Some s) fresh))) no_history
   formatted_reached =
       let F = finishes_there m b (ap size_ok same_length ∙ size_ok_lem) in
       let e : F.state ≡ s = same_given (sym F.begun ∙ f) in
       let n : length m / 4096 ≡ 4 = ap (λ (n : ℕ). n / 4096) l in
       rw (e, n) at F.reached
 
-  going : Going (lent_anew (steps_on 5 (world m (some s) fresh))) Table.fresh
+  going : Going (lent_anew (steps_on 5 (world m (Some s) fresh))) Table.fresh
   going = record { history = no_history; reached = formatted_reached; tells = rw world_is formatted_tells }
 
 -- ---- the texts

@@ -1,7 +1,7 @@
 -- 01's example of what `morning` prints, and others, on the bytes that the calls leave on a medium of four blocks, whatever stood on it
 -- before it was formatted.
 use Rattle.std.specs.Prelude.{◌≡◌, List, [], ◌∷◌, ℕ, ◌^◌, length, replicate}
-use Rattle.std.proofs.Math.Option.{some}
+use Rattle.std.specs.Prelude.{Some}
 use Rattle.lists.specs.Lists.{Below, Bytes}
 use Rattle.lists.specs.Needs.{gives}
 use Rattle.lists.specs.Cells.{cell, Entry, keys_of, words_of}
@@ -67,7 +67,7 @@ pub record Printed (w : World) : Type 0 where
 unfoldable pub PrintedAfterFormat : Type 0
 PrintedAfterFormat =
     (m : List ℕ) → Bytes m → length m ≡ 16384 → (s : Held) → format_of (length m) ≡ gives s
-    → Printed (lent_anew (steps_on 5 (world m (some s) fresh)))
+    → Printed (lent_anew (steps_on 5 (world m (Some s) fresh)))
 
 -- a medium that was never formatted
 unfoldable pub PrintedUnformatted : Type 0

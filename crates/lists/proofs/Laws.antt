@@ -1,7 +1,7 @@
 -- Laws of tests, scans, tables and counted arrays.
 use mathlib.Core.Path.{◌≡◌, refl, sym, ap, ◌∙◌}
 use mathlib.Core.Bool.{Bool, true, false, not, ◌&&◌, ◌||◌}
-use mathlib.Core.Option.{none, some}
+use Rattle.std.proofs.Common.{None, Some}
 use mathlib.Core.List.{List, [], ◌∷◌, ◌++◌}
 use Prim.Native.Nat.{ℕ, zero, suc, ◌+◌, ◌-◌, ◌≤◌, ◌<◌}
 use native.Mathlib.Omega.{arith}
@@ -60,11 +60,11 @@ by_eq a b p q = by_cases (eqb a b) (λ e. p (eqb-true a b e)) (λ e. q (eqb-fals
 
 -- ---- what is there, or is not
 
-pub some_same : {A : Type 0} {x y : A} → some x ≡ some y → x ≡ y
+pub some_same : {A : Type 0} {x y : A} → Some x ≡ Some y → x ≡ y
 unfolding value_or
 some_same {A} {x} {y} e = ap (value_or x) e
 
-pub none_some : {A P : Type 0} {x : A} → none ≡ some x → P
+pub none_some : {A P : Type 0} {x : A} → None ≡ Some x → P
 none_some e = let z : ◌≡◌ {A = ℕ} 0 1 = cc in absurd (omega arith)
 
 -- ---- tests over lists

@@ -1,4 +1,3 @@
 pub mod Lists
 pub mod Needs
 pub mod Cells
-pub mod Found

@@ -1,6 +1,6 @@
 -- Tests over lists, scans below a bound, tables, and the list that an array with a count stands for.
 use Rattle.std.specs.Prelude.{Bool, true, false, cond, ◌&&◌, List, [], ◌∷◌, ◌++◌, ℕ, zero, suc, ◌+◌, ◌-◌, ◌<◌, length, get_or, take, replicate}
-use Rattle.std.proofs.Math.Option.{Option, none, some}
+use Rattle.std.specs.Prelude.{Option, None, Some}
 
 -- f holds of each element
 unfoldable pub all {ℓ} : {A : Type ℓ} → (A → Bool) → List A → Bool
@@ -19,13 +19,13 @@ keep f (x ∷ xs) = cond (f x) (x ∷ keep f xs) (keep f xs)
 
 -- whether there is one
 unfoldable pub is_some : {A : Type 0} → Option A → Bool
-is_some none = false
-is_some (some a) = true
+is_some None = false
+is_some (Some a) = true
 
 -- it, or d
 unfoldable pub value_or : {A : Type 0} → A → Option A → A
-value_or d none = d
-value_or d (some a) = a
+value_or d None = d
+value_or d (Some a) = a
 
 -- f holds of each number below n
 unfoldable pub all_below : ℕ → (ℕ → Bool) → Bool

@@ -18,10 +18,3 @@ pub struct Cells {
     pub keys: [u16; 192],
     pub vals: [u64; 192],
 }
-
-// A number that was sought, or that there is none.
-#[derive(Clone, Copy)]
-pub enum Found {
-    At(u64),
-    Missing,
-}

@@ -6,6 +6,7 @@
 ghost use Rattle.std.specs.Prelude.{◌≡◌, length};
 
 use std::io;
+use text::Text;
 
 // Room for the longest medium that is listed, and one byte more.
 fn input_room() -> [u8; 65537]
@@ -23,12 +24,11 @@ fn text_room() -> [u8; 524288]
 
 fn main(rt: HostRuntime) {
     let mut b = input_room();
-    let r = streams::read(&mut rt.stdin(), &rt, &mut b);
-    if r.failed {
+    let Some(n) = streams::read(&mut rt.stdin(), &rt, &mut b) else {
         return;
-    }
-    let n = r.count;
-    let mut out = text_room();
-    let k = listing::medium(&b[..n], &mut out);
-    streams::write(&mut io::writer(&rt), &rt, &out[..k]);
+    };
+    let mut room = text_room();
+    let mut out = Text::new(&mut room);
+    listing::medium(&b[..n], &mut out);
+    streams::write(&mut io::writer(&rt), &rt, out.as_bytes());
 }

@@ -1,8 +1,7 @@
 -- How long each piece of the text is, so that the lists that are lent for it have room.
-use mathlib.Core.Path.{◌≡◌}
 use mathlib.Core.Bool.{Bool, true, false, cond}
 use mathlib.Core.List.{List, [], ◌∷◌, ◌++◌}
-use Prim.Native.Nat.{ℕ, zero, suc, ◌+◌, ◌-◌, ◌*◌, ◌/◌, ◌≤◌, ◌<◌}
+use Prim.Native.Nat.{ℕ, zero, suc, ◌+◌, ◌-◌, ◌*◌, ◌/◌, ◌≤◌}
 use native.Mathlib.Omega.{arith}
 use lib.ListN.{length, length-append}
 use lib.Dec.{ltb, eqb}
@@ -18,7 +17,6 @@ use Rattle.page.specs.Rules.{lawful}
 use Rattle.page.specs.Layout.{used, decode, whole_bytes, clean_bytes}
 use Rattle.flash.specs.Medium.{views, page_at}
 use Rattle.recovery.specs.Recovery.{Recovery, recover}
-use Rattle.listing.specs.Listing.{refusal_line}
 use Rattle.listing.proofs.Whole.{few_refusal}
 use Rattle.page_text.specs.PageText.{kind_name, flags_name, field_text, kind_text, flags_text, fields_text, rules_text, class_text}
 use Rattle.page_text.specs.PageText.{entry_line, entry_lines, page_text, clean_line, lines_from, end_text, pages_text}

@@ -1,3 +1,2 @@
 pub mod PageText
-pub mod Pieces
 pub mod Claims

@@ -4,14 +4,14 @@
 // nothing more.
 #![tactic(auto)]
 
-ghost use Rattle.std.specs.Prelude.{not, ◌≡◌, ◌<◌, length};
+ghost use Rattle.std.specs.Prelude.{◌≡◌, ◌<◌, is_some, length};
 ghost use Rattle.streams.specs.Streams.{Gave};
 ghost use Rattle.text.specs.Parts.{PartAt, PrintsAll};
 ghost use Rattle.page_text.specs.PageText.{pages_text};
 
 use std::io;
 use std::io::Write;
-use text::Printed;
+use text::Text;
 
 // Bytes of the text of a medium on standard output, of which those before this place were written; whether they were written.
 fn write_part<W: Write>(
@@ -27,27 +27,28 @@ fn write_part<W: Write>(
     streams::write(output, errors, part)
 }
 
-// The text of a medium, as many bytes at a time as the lent list is long.
-fn print<W: Write>(output: &mut W, errors: &impl Eprint, m: &[u8], out: &mut [u8]) -> Printed
-    requires { 0 < length out.old }
+// The text of a medium, as many bytes at a time as the lent list is long; how many bytes these were, none where a write failed.
+// Kept: one loop for `pages` and `rerun` would take a closure over the medium and the buffer, with clauses on both: no plainer.
+fn print<W: Write>(
+    output: &mut W,
+    errors: &impl Eprint,
+    m: &[u8],
+    out: &mut Text<'_>,
+) -> Option<usize>
+    requires { 0 < out.old.room }
     ensures all { PrintsAll (pages_text m.now) result }
-    ensures gave { Gave (W.contents output.old) (W.contents output.new) (pages_text m.now) (not result.failed) }
+    ensures gave { Gave (W.contents output.old) (W.contents output.new) (pages_text m.now) (is_some result) }
 {
     let mut from: usize = 0;
     loop {
-        let k = page_text::window(m, from, out);
-        if !write_part(output, errors, m, from, &out[..k]) {
-            return Printed {
-                failed: true,
-                count: from,
-            };
+        page_text::window(m, from, out);
+        let part = out.as_bytes();
+        if !write_part(output, errors, m, from, part) {
+            return None;
         }
-        from += k;
-        if k < out.len() {
-            return Printed {
-                failed: false,
-                count: from,
-            };
+        from += part.len();
+        if !out.is_full() {
+            return Some(from);
         }
     }
 }
@@ -68,11 +69,9 @@ fn text_room() -> [u8; 1048576]
 
 fn main(rt: HostRuntime) {
     let mut b = input_room();
-    let r = streams::read(&mut rt.stdin(), &rt, &mut b);
-    if r.failed {
+    let Some(n) = streams::read(&mut rt.stdin(), &rt, &mut b) else {
         return;
-    }
-    let n = r.count;
+    };
     let mut out = text_room();
-    print(&mut io::writer(&rt), &rt, &b[..n], &mut out);
+    print(&mut io::writer(&rt), &rt, &b[..n], &mut Text::new(&mut out));
 }

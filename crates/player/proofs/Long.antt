@@ -1,7 +1,7 @@
 -- A group of more than 96 entries is refused whatever its entries are, so its first 97 decide how an append or a buffered group is played.
 use mathlib.Core.Path.{◌≡◌, refl, sym, ◌∙◌}
 use mathlib.Core.Bool.{Bool, true, false, cond, ◌&&◌}
-use mathlib.Core.Option.{Option, none, some}
+use Rattle.std.proofs.Common.{Option, None, Some}
 use mathlib.Core.List.{List, [], ◌∷◌, ◌++◌}
 use Prim.Native.Nat.{ℕ, ◌≤◌, ◌<◌}
 use native.Mathlib.Omega.{arith}
@@ -38,8 +38,8 @@ unfolding with_held with_state
 held_refused {A} w f g e = go w.state
   where
     go : (o : Option Held) → with_state o (refused 9) f ≡ refused (with_state o 9 g)
-    go none = refl
-    go (some s) = e s
+    go None = refl
+    go (Some s) = e s
 
 false_last : (a b : Bool) → a && (b && false) ≡ false
 false_last true true = refl

@@ -1,6 +1,6 @@
 -- Document 02's Paper 13: a recorded call played, and the lines of a whole run.
 use Rattle.std.specs.Prelude.{Bool, true, false, cond, List, [], ◌∷◌, ◌++◌, ℕ, ◌+◌, ◌*◌, length, eqb}
-use Rattle.std.proofs.Math.Option.{none, some}
+use Rattle.std.specs.Prelude.{None, Some}
 use Rattle.lists.specs.Needs.{Answer, refused, gives}
 use Rattle.codec.specs.Codec.{blank}
 use Rattle.flash.specs.Medium.{views}
@@ -58,7 +58,7 @@ run_ends_with w n = record { moment = still w; lines = Line.refusal n ∷ []; en
 -- formatting begun on the medium of a world, and the buffer as it is lent from then on
 unfoldable pub begun_format : World → Answer Held → Moment
 begun_format w (refused n) = still w
-begun_format w (gives s) = moment w.medium (some s) fresh unchanged
+begun_format w (gives s) = moment w.medium (Some s) fresh unchanged
 
 unfoldable pub played_recovery : World → Answer Recovery → Turn
 played_recovery w (refused n) = run_ends_with w n
@@ -92,7 +92,7 @@ played w Recorded.flush = run_goes_on (called w began_flush (flush_in w)) (refus
 
 -- "The medium starts all FFh": so many blocks as the first call, a format, names; there is no state yet
 unfoldable pub start_world : List ℕ → World
-start_world t = world (blank (4096 * number_at t 0)) none fresh
+start_world t = world (blank (4096 * number_at t 0)) None fresh
 
 -- the lines of calls from a world on, up to one that ends the run
 unfoldable pub lines_from : World → List Recorded → List Line

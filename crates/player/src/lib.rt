@@ -1,232 +1,229 @@
 // A recorded call played: what it does to medium, state and buffer, and its reply.
 #![tactic(auto)]
 
-ghost use Rattle.std.specs.Prelude.{◌≡◌, ◌*◌, ◌≤◌, ◌<◌, length, true};
+ghost use Rattle.std.specs.Prelude.{◌≡◌, ◌*◌, ◌≤◌, ◌<◌, length, true, false};
 ghost use Rattle.flash.specs.Medium.{views};
-ghost use Rattle.codec.specs.Codec.{blank};
 ghost use Rattle.page.specs.Buffer.{buffer_bytes};
 ghost use Rattle.state.specs.State.{meaning};
 ghost use Rattle.step.specs.Step.{step_of};
 ghost use Rattle.advance.specs.Outcomes.{Performs};
-ghost use Rattle.begin.specs.Begun.{Begins};
 ghost use Rattle.trace.specs.Trace.{Recorded, code_at, has_group};
 ghost use Rattle.cut_patterns.specs.Struck.{most_bytes, struck};
 ghost use Rattle.player.specs.Played.{struck_by};
-ghost use Rattle.player.specs.Played.{world_by, Plays, call_of, Starts, PlaysAt, Playable};
-ghost use Rattle.player.specs.Played.{answered_by, refused_by, lost_by, restarted_by, Recalls, operation_of, operation_answer};
+ghost use Rattle.player.specs.Played.{world_by, Plays, recorded_by, CutFits, Starts, PlaysAt, Playable};
+ghost use Rattle.player.specs.Played.{answered_by, refused_by, lost_by, restarted_by, Recalls};
 
 use begin::Begun;
 use operations::Stepped;
+use refusal::Refusal;
 use state::State;
+use trace::Kind;
 
-// The state last handed back; it is lost after a cut, until a recovery gives one. What `state` then holds means nothing.
+// A call with what is recorded beside it.
 #[derive(Clone, Copy)]
-pub struct LastState {
-    pub lost: bool,
-    pub state: State,
+pub enum RecordedCall<'a> {
+    Format(u64),
+    Append { keys: &'a [u16], words: &'a [u64] },
+    Commit,
+    Collect(u64),
+    Step,
+    Cut { name: u64, pattern: &'a [u8] },
+    Recover,
+    Buffer { keys: &'a [u16], words: &'a [u64] },
+    Flush,
 }
 
-// How a recorded call went: the number that it was refused with, or 0; whether it was a recovery that was accepted, and then the length of its log;
-// whether the run ends with it; and the state.
+// What is printed of a call: nothing; the number that it was refused with; or, after a recovery, the length of the log, and then the settings.
+#[derive(Clone, Copy)]
+pub enum Told {
+    Nothing,
+    Refused(u8),
+    Recovered(usize),
+}
+
+// How a recorded call went: what is printed of it, whether the run ends with it, and the state last handed back, which is lost after a cut until a
+// recovery gives one.
 #[derive(Clone, Copy)]
 pub struct Reply {
-    pub number: u8,
-    pub recovered: bool,
-    pub log: usize,
+    pub told: Told,
     pub ends: bool,
-    pub last: LastState,
+    pub last: Option<State>,
 }
 
 // A reply: the number that a call was refused with or 0, and the state.
 fn answered(number: u8, s: State) -> Reply
     ensures { result ≡ answered_by number s }
 {
-    let last = LastState {
-        lost: false,
-        state: s,
+    let told = if number == 0 {
+        Told::Nothing
+    } else {
+        Told::Refused(number)
     };
     Reply {
-        number: number,
-        recovered: false,
-        log: 0,
+        told,
         ends: false,
-        last: last,
+        last: Some(s),
     }
+}
+
+// The reply of a call that begins an operation.
+fn begun(f: Begun) -> Reply
+    ensures { result ≡ answered_by f.number f.state }
+{
+    let s = f.state;
+    answered(f.number, s)
 }
 
 // A refusal, after which the state is as it was.
-fn refused(number: u8, ends: bool, last: LastState) -> Reply
+fn refused(number: u8, ends: bool, last: Option<State>) -> Reply
     ensures { result ≡ refused_by number ends last }
 {
     Reply {
-        number: number,
-        recovered: false,
-        log: 0,
-        ends: ends,
-        last: last,
+        told: Told::Refused(number),
+        ends,
+        last,
     }
 }
 
+// The refusal of a call that takes a state, where it is lost.
+fn stateless() -> Reply
+    ensures { result ≡ refused_by 9 false None }
+{
+    refused(Refusal::NonePending.number(), false, None)
+}
+
+// The refusal of a cut that is not played, which ends the run.
+fn no_cut(last: Option<State>) -> Reply
+    ensures { result ≡ refused_by 27 true last }
+{
+    refused(Refusal::Cut.number(), true, last)
+}
+
 // Formatting begins; the buffer is lent all FFh from then on.
-fn format(m: &[u8], b: &mut [u8], last: LastState, number: u64) -> Reply
+fn format(m: &[u8], b: &mut [u8], last: Option<State>, blocks: u64) -> Reply
     requires { length b.old ≡ buffer_bytes }
-    ensures { Plays (world_by m.now last b.old) (Recorded.format number) result m.now b.new }
+    ensures { Plays (world_by m.now last b.old) (Recorded.format blocks) result m.now b.new }
 {
     let f = begin::format(m);
     if f.number != 0 {
         return refused(f.number, false, last);
     }
     buffer::clear(b);
-    let s = f.state;
-    answered(0, s)
+    begun(f)
 }
 
-// A call that begins an operation, but formatting: an append, a commit, a collection or a flush.
-fn begun<'a>(
-    m: &[u8],
-    b: &[u8],
-    s: State,
-    code: u64,
-    number: u64,
-    keys: &'a [u16],
-    words: &'a [u64],
-) -> Begun
-    ensures { Begins s (operation_answer m.now (meaning s) b.now code number keys.now words.now) result }
+// An append.
+fn append<'a>(m: &[u8], b: &[u8], last: Option<State>, keys: &'a [u16], words: &'a [u64]) -> Reply
+    ensures { Plays (world_by m.now last b.now) (Recorded.append keys.now words.now) result m.now b.now }
 {
-    if code == trace::APPEND {
-        return journal_c::vj_append(m, s, b, keys, words);
-    }
-    if code == trace::COMMIT {
-        return journal_c::vj_commit(m, s, b);
-    }
-    if code == trace::COLLECT {
-        return journal_c::vj_collect(m, s, b, number as usize);
-    }
-    journal_c::vj_flush(m, s, b)
+    let Some(s) = last else {
+        return stateless();
+    };
+    begun(journal_c::vj_append(m, s, b, keys, words))
 }
 
-// The same with the state last handed back; 9 where it is lost.
-fn operation<'a>(
+// A commit.
+fn commit(m: &[u8], b: &[u8], last: Option<State>) -> Reply
+    ensures { Plays (world_by m.now last b.now) Recorded.commit result m.now b.now }
+{
+    let Some(s) = last else {
+        return stateless();
+    };
+    begun(journal_c::vj_commit(m, s, b))
+}
+
+// The collection of a block.
+fn collect(m: &[u8], b: &[u8], last: Option<State>, block: u64) -> Reply
+    ensures { Plays (world_by m.now last b.now) (Recorded.collect block) result m.now b.now }
+{
+    let Some(s) = last else {
+        return stateless();
+    };
+    begun(journal_c::vj_collect(m, s, b, block as usize))
+}
+
+// A flush.
+fn flush(m: &[u8], b: &[u8], last: Option<State>) -> Reply
+    ensures { Plays (world_by m.now last b.now) Recorded.flush result m.now b.now }
+{
+    let Some(s) = last else {
+        return stateless();
+    };
+    begun(journal_c::vj_flush(m, s, b))
+}
+
+// A group put into the buffer.
+fn buffered<'a>(
     m: &[u8],
-    b: &[u8],
-    last: LastState,
-    code: u64,
-    number: u64,
+    b: &mut [u8],
+    last: Option<State>,
     keys: &'a [u16],
     words: &'a [u64],
 ) -> Reply
-    ensures { Plays (world_by m.now last b.now) (operation_of code number keys.now words.now) result m.now b.now }
-{
-    if last.lost {
-        return refused(9, false, last);
-    }
-    let s = last.state;
-    let f = begun(m, b, s, code, number, keys, words);
-    let t = f.state;
-    answered(f.number, t)
-}
-
-// A group put into the buffer; 9 where the state is lost.
-fn buffered<'a>(m: &[u8], b: &mut [u8], last: LastState, keys: &'a [u16], words: &'a [u64]) -> Reply
     ensures { Plays (world_by m.now last b.old) (Recorded.buffer keys.now words.now) result m.now b.new }
 {
-    if last.lost {
-        return refused(9, false, last);
-    }
-    let s = last.state;
-    let number = begin::buffer(m, s, b, keys, words);
+    let Some(s) = last else {
+        return stateless();
+    };
+    let number = refusal::number_in(begin::buffer(m, &s, b, keys, words));
     answered(number, s)
 }
 
-// One step; 9 where the state is lost.
-fn step(m: &mut [u8], b: &mut [u8], last: LastState) -> Reply
+// One step.
+fn step(m: &mut [u8], b: &mut [u8], last: Option<State>) -> Reply
     ensures { Plays (world_by m.old last b.old) Recorded.step result m.new b.new }
 {
-    if last.lost {
-        return refused(9, false, last);
-    }
-    let s = last.state;
+    let Some(s) = last else {
+        return stateless();
+    };
     let r = journal_c::vj_step(m, s, b);
     let t = r.state;
     answered(r.number, t)
 }
 
-// A recovery that was accepted, with the length of its log.
-fn restored(log: usize, s: State) -> Reply
-    ensures { result ≡ restarted_by log s }
-{
-    let last = LastState {
-        lost: false,
-        state: s,
-    };
-    Reply {
-        number: 0,
-        recovered: true,
-        log: log,
-        ends: false,
-        last: last,
-    }
-}
-
-// Recovery's answer: the number that it was refused with, or 0 and the length of the log and the state.
+// What an accepted recovery gives: the length of the log, and the state.
 #[derive(Clone, Copy)]
 struct Recalled {
-    number: u8,
     log: usize,
     state: State,
 }
 
-// The number, the length of the log and the state that a recovery gives.
-fn recall(m: &[u8]) -> Recalled
+// A recovery, or what refuses it.
+fn recall(m: &[u8]) -> Result<Recalled, Refusal>
     ensures { Recalls m.now result }
 {
     let mut kept = [0u16; flash::PAGES];
-    let r = recover::recover_into(m, &mut kept);
-    let s = r.state;
-    if r.number != 0 {
-        return Recalled {
-            number: r.number,
-            log: 0,
-            state: s,
-        };
-    }
-    let done = r.done;
-    let log = changes::count(m, &kept[..done]);
-    Recalled {
-        number: 0,
-        log: log,
-        state: s,
-    }
+    let r = recover::recover_into(m, &mut kept)?;
+    let log = changes::count(m, &kept[..r.done]);
+    Ok(Recalled {
+        log,
+        state: r.state,
+    })
 }
 
 // Recovery: where it is accepted the buffer is lent all FFh from then on, and where it is refused the run ends.
-fn recovery(m: &[u8], b: &mut [u8], last: LastState) -> Reply
+fn recovery(m: &[u8], b: &mut [u8], last: Option<State>) -> Reply
     requires { length b.old ≡ buffer_bytes }
     ensures { Plays (world_by m.now last b.old) Recorded.recover result m.now b.new }
 {
-    let f = recall(m);
-    if f.number != 0 {
-        return refused(f.number, true, last);
+    match recall(m) {
+        Err(refusal) => refused(refusal.number(), true, last),
+        Ok(r) => {
+            buffer::clear(b);
+            restored(r)
+        }
     }
-    buffer::clear(b);
-    let s = f.state;
-    restored(f.log, s)
 }
 
-// A cut played: the state is lost.
-fn cut_short(s: State) -> Reply
-    ensures { result ≡ lost_by s }
+// The reply of a recovery that was accepted.
+fn restored(r: Recalled) -> Reply
+    ensures { result ≡ restarted_by r.log r.state }
 {
-    let last = LastState {
-        lost: true,
-        state: s,
-    };
+    let s = r.state;
     Reply {
-        number: 0,
-        recovered: false,
-        log: 0,
+        told: Told::Recovered(r.log),
         ends: false,
-        last: last,
+        last: Some(s),
     }
 }
 
@@ -246,7 +243,7 @@ fn rehearse(copy: &mut [u8], b: &[u8], s: State) -> Stepped
     ensures { Performs copy.old s b.now result copy.new }
 {
     let mut lent = [0u8; 256];
-    cut_patterns::overwrite(&mut lent, b);
+    lent.copy_from_slice(b);
     journal_c::vj_step(copy, s, &mut lent)
 }
 
@@ -256,9 +253,9 @@ fn strike_with(copy: &mut [u8], m: &mut [u8], b: &[u8], s: State, name: u64, pat
     requires { (length copy.old ≡ length m.old) × (length m.old ≤ most_bytes) × (length b.now ≡ buffer_bytes) }
     ensures { struck result m.new ≡ struck_by m.old name pattern.now (step_of (length m.old) (views m.old) (meaning s) b.now) }
 {
-    cut_patterns::overwrite(copy, m);
+    copy.copy_from_slice(m);
     let r = rehearse(copy, b, s);
-    cut_patterns::leave(m, copy, r.number, r.touched, r.at, name, pattern)
+    cut_patterns::leave(m, copy, &r, name, pattern)
 }
 
 // The same with room of its own.
@@ -273,105 +270,94 @@ fn strike(m: &mut [u8], b: &[u8], s: State, name: u64, pattern: &[u8]) -> bool
 
 // A cut in the place of the step due, after which the state is lost and the buffer all FFh; 27, and the end of the run, where none is due or the cut
 // names another page or block.
-fn cut(m: &mut [u8], b: &mut [u8], last: LastState, name: u64, pattern: &[u8]) -> Reply
+fn cut(m: &mut [u8], b: &mut [u8], last: Option<State>, name: u64, pattern: &[u8]) -> Reply
     requires { (length m.old ≤ most_bytes) × (length b.old ≡ buffer_bytes) }
     ensures { Plays (world_by m.old last b.old) (Recorded.cut name pattern.now) result m.new b.new }
 {
-    if last.lost {
-        return refused(27, true, last);
-    }
-    let s = last.state;
+    let Some(s) = last else {
+        return no_cut(None);
+    };
     if !strike(m, b, s, name, pattern) {
-        return refused(27, true, last);
+        return no_cut(Some(s));
     }
     buffer::clear(b);
-    cut_short(s)
+    Reply {
+        told: Told::Nothing,
+        ends: false,
+        last: None,
+    }
 }
 
-// One call, by its code and the arguments that it has; what stands for the others means nothing. Any code but the first eight is that of a flush.
-pub fn call<'a>(
-    m: &mut [u8],
-    b: &mut [u8],
-    last: LastState,
-    code: u64,
-    number: u64,
-    keys: &'a [u16],
-    words: &'a [u64],
-    pattern: &[u8],
-) -> Reply
-    requires { (code ≡ 6 → length m.old ≤ most_bytes) × (length b.old ≡ buffer_bytes) }
-    ensures { Plays (world_by m.old last b.old) (call_of code number keys.now words.now pattern.now) result m.new b.new }
+// One call.
+pub fn call(m: &mut [u8], b: &mut [u8], last: Option<State>, c: RecordedCall) -> Reply
+    requires { CutFits c m.old × (length b.old ≡ buffer_bytes) }
+    ensures { Plays (world_by m.old last b.old) (recorded_by c.entry) result m.new b.new }
 {
-    if code == trace::FORMAT {
-        return format(m, b, last, number);
-    }
-    if code == trace::STEP {
-        return step(m, b, last);
-    }
-    if code == trace::CUT {
-        return cut(m, b, last, number, pattern);
-    }
-    if code == trace::RECOVER {
-        return recovery(m, b, last);
-    }
-    if code == trace::BUFFER {
-        return buffered(m, b, last, keys, words);
-    }
-    operation(m, b, last, code, number, keys, words)
-}
-
-// A medium all FFh.
-fn fill(m: &mut [u8])
-    ensures { m.new ≡ blank (length m.old) }
-{
-    let mut i: usize = 0;
-    while i < m.len() {
-        m[i] = 255;
-        i += 1;
+    match c {
+        RecordedCall::Format(blocks) => format(m, b, last, blocks),
+        RecordedCall::Append { keys, words } => append(m, b, last, keys, words),
+        RecordedCall::Commit => commit(m, b, last),
+        RecordedCall::Collect(block) => collect(m, b, last, block),
+        RecordedCall::Step => step(m, b, last),
+        RecordedCall::Cut { name, pattern } => cut(m, b, last, name, pattern),
+        RecordedCall::Recover => recovery(m, b, last),
+        RecordedCall::Buffer { keys, words } => buffered(m, b, last, keys, words),
+        RecordedCall::Flush => flush(m, b, last),
     }
 }
 
 // Where a run starts: the medium and the buffer all FFh, and no state yet.
-pub fn start(m: &mut [u8], b: &mut [u8]) -> LastState
+#[tactic(auto, unfolding(codec::specs::Codec::blank))]
+pub fn start(m: &mut [u8], b: &mut [u8]) -> Option<State>
     requires { length b.old ≡ buffer_bytes }
     ensures { Starts m.old result m.new b.new }
 {
-    fill(m);
+    m.fill(255);
     buffer::clear(b);
-    let f = begin::format(m);
-    let s = f.state;
-    LastState {
-        lost: true,
-        state: s,
-    }
+    None
 }
 
 // Call i of a trace, which has a group; its bytes start at `at`. Of a longer group 97 entries are read: it is refused whatever they are.
-fn play_group(t: &[u8], i: usize, at: usize, m: &mut [u8], b: &mut [u8], last: LastState) -> Reply
+fn play_group(
+    t: &[u8],
+    i: usize,
+    at: usize,
+    m: &mut [u8],
+    b: &mut [u8],
+    last: Option<State>,
+) -> Reply
     requires { Playable t.now i at m.old b.old × (has_group (code_at t.now i) ≡ true) }
     ensures { PlaysAt t.now i m.old last b.old result m.new b.new }
 {
-    let code = trace::code(t, i);
     let n = trace::number(t, i);
     let k = trace::entries(n);
-    let keys = trace::keys(t, at, k);
-    let words = trace::words(t, at + 2 * (n as usize), k);
-    call(m, b, last, code, n, &keys[..k], &words[..k], &[])
+    let all_keys = trace::keys(t, at, k);
+    let all_words = trace::words(t, at + 2 * (n as usize), k);
+    let keys = &all_keys[..k];
+    let words = &all_words[..k];
+    match trace::kind_at(t, i) {
+        Kind::Append => call(m, b, last, RecordedCall::Append { keys, words }),
+        _ => call(m, b, last, RecordedCall::Buffer { keys, words }),
+    }
 }
 
 // Call i of a trace, whose bytes start at `at`.
-pub fn play(t: &[u8], i: usize, at: usize, m: &mut [u8], b: &mut [u8], last: LastState) -> Reply
+pub fn play(t: &[u8], i: usize, at: usize, m: &mut [u8], b: &mut [u8], last: Option<State>) -> Reply
     requires { Playable t.now i at m.old b.old }
     ensures { PlaysAt t.now i m.old last b.old result m.new b.new }
 {
-    let code = trace::code(t, i);
     let n = trace::number(t, i);
-    if trace::has_group(code) {
-        return play_group(t, i, at, m, b, last);
+    match trace::kind_at(t, i) {
+        Kind::Format => call(m, b, last, RecordedCall::Format(n)),
+        Kind::Append | Kind::Buffer => play_group(t, i, at, m, b, last),
+        Kind::Commit => call(m, b, last, RecordedCall::Commit),
+        Kind::Collect => call(m, b, last, RecordedCall::Collect(n)),
+        Kind::Step => call(m, b, last, RecordedCall::Step),
+        Kind::Cut => {
+            let pattern = trace::pattern(t, at, n);
+            call(m, b, last, RecordedCall::Cut { name: n, pattern })
+        }
+        Kind::Recover => call(m, b, last, RecordedCall::Recover),
+        Kind::Flush => call(m, b, last, RecordedCall::Flush),
     }
-    if code == trace::CUT {
-        let pattern = trace::pattern(t, at, n);
-        return call(m, b, last, code, n, &[], &[], pattern);
-    }
-    call(m, b, last, code, n, &[], &[], &[])
 }

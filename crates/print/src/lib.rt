@@ -3,7 +3,9 @@
 
 ghost use Rattle.std.specs.Prelude.{◌≡◌, length};
 
+use lists::Cell;
 use std::io;
+use text::Text;
 
 // Text as it is.
 pub fn text(rt: &(impl Print + Eprint), s: &[u8]) {
@@ -12,9 +14,10 @@ pub fn text(rt: &(impl Print + Eprint), s: &[u8]) {
 
 // A number, decimal.
 pub fn number(rt: &(impl Print + Eprint), n: u64) {
-    let mut out = [0u8; 20];
-    let k = text::number(&mut out, 0, n);
-    text(rt, &out[..k]);
+    let mut room = [0u8; 20];
+    let mut digits = Text::new(&mut room);
+    digits.number(n);
+    text(rt, digits.as_bytes());
 }
 
 // A word of the output, then a number, at the end of a line.
@@ -26,9 +29,10 @@ pub fn line(rt: &(impl Print + Eprint), name: &[u8], n: u64) {
 
 // A refusal, as in a listing.
 pub fn refused(rt: &(impl Print + Eprint), number: u8) {
-    let mut out = [0u8; 32];
-    let k = listing::refusal(&mut out, 0, number);
-    text(rt, &out[..k]);
+    let mut room = [0u8; 32];
+    let mut out = Text::new(&mut room);
+    listing::refusal(&mut out, number);
+    text(rt, out.as_bytes());
 }
 
 // A call, and its answer: the number that it refused with, or 0.
@@ -43,9 +47,10 @@ pub fn answer(rt: &(impl Print + Eprint), call: &[u8], number: u8) {
 
 // One change, as in a listing.
 pub fn change(rt: &(impl Print + Eprint), group: u32, key: u16, word: u64) {
-    let mut out = [0u8; 64];
-    let k = listing::change(&mut out, 0, group, key, word);
-    text(rt, &out[..k]);
+    let mut room = [0u8; 64];
+    let mut out = Text::new(&mut room);
+    listing::change(&mut out, group, Cell { key, val: word });
+    text(rt, out.as_bytes());
 }
 
 // Room for the longest listing.
@@ -57,7 +62,8 @@ fn room() -> [u8; 524288]
 
 // The listing of a medium.
 pub fn medium(rt: &(impl Print + Eprint), m: &[u8]) {
-    let mut out = room();
-    let k = listing::medium(m, &mut out);
-    text(rt, &out[..k]);
+    let mut room = room();
+    let mut out = Text::new(&mut room);
+    listing::medium(m, &mut out);
+    text(rt, out.as_bytes());
 }

@@ -1,7 +1,7 @@
 -- Along a run: each call of the form is an event of the list of calls and power cuts, and keeps the medium's length.
 use mathlib.Core.Path.{◌≡◌, refl, sym, ap, ◌∙◌}
 use mathlib.Core.Bool.{true}
-use mathlib.Core.Option.{Option, none, some}
+use Rattle.std.proofs.Common.{Option, None, Some}
 use mathlib.Core.List.{List}
 use Prim.Native.Nat.{ℕ, ◌+◌, ◌-◌, ◌^◌, ◌≤◌}
 use native.Mathlib.Omega.{arith}
@@ -49,14 +49,14 @@ stepped_medium w (refused n) = refl
 stepped_medium w (gives (Step.program p pg s finished)) = refl
 stepped_medium w (gives (Step.erase b s finished)) = refl
 
-module _ (m : List ℕ) (s : Held) (bs : List ℕ) (h : History) (U : Upheld (world m (some s) bs) h) where
+module _ (m : List ℕ) (s : Held) (bs : List ℕ) (h : History) (U : Upheld (world m (Some s) bs) h) where
   step_length : (st : Answer Step) → Good (views m) s bs h st → length (medium_after m st) ≡ length m
   unfolding Good medium_after
   step_length (refused n) G = refl
   step_length (gives (Step.program p pg s' finished)) G = program_length m p pg (there m s bs h U p pg s' G) G.fits_in.count
   step_length (gives (Step.erase b s' finished)) G = erase_length m b (block_there m s bs h U b s' G)
 
-  cut_length : (left : List ℕ) (st : Answer Step) → CutOf m st left → length (cut_short (world m (some s) bs) left st).after.medium ≡ length m
+  cut_length : (left : List ℕ) (st : Answer Step) → CutOf m st left → length (cut_short (world m (Some s) bs) left st).after.medium ≡ length m
   unfolding CutOf cut_short
   cut_length left (refused n) c = absurd c
   cut_length left (gives (Step.program p pg s' finished)) c = unfold Rattle.flash.specs.Cuts.CutProgram in c.size
@@ -90,16 +90,16 @@ unfolding with_held with_state called
 called_held w t f = go w.state
   where
     go : (o : Option Held) → called w t (with_state o (refused 9) f) ≡ with_state o (still w) (λ s. called w t (f s))
-    go none = refl
-    go (some s) = refl
+    go None = refl
+    go (Some s) = refl
 
 filled_held : (w : World) (t : Told) (f : Held → Answer (List ℕ)) → filled w t (with_held w f) ≡ with_state w.state (still w) (λ s. filled w t (f s))
 unfolding with_held with_state filled
 filled_held w t f = go w.state
   where
     go : (o : Option Held) → filled w t (with_state o (refused 9) f) ≡ with_state o (still w) (λ s. filled w t (f s))
-    go none = refl
-    go (some s) = refl
+    go None = refl
+    go (Some s) = refl
 
 -- what the form asks of a call after the first: it is no format, keys have 16 bits and words 64, and a cut's pattern has its size
 unfoldable pub InForm : Recorded → Type 0
@@ -124,15 +124,15 @@ struck w st left e c = record { event = Event.cut_inside left c; same = ap (cut_
 cut_event : (m : List ℕ) (s : Option Held) (b : List ℕ) (h : History) → Upheld (world m s b) h → length m ≤ 65536 → (name : ℕ) (pattern : List ℕ) → length pattern ≡ pattern_size name
     → AsEvent (world m s b) (played_cut (world m s b) name pattern (step_due (world m s b))).moment
 unfolding step_due with_state played_cut
-cut_event m none b h U small name pattern l = stays (world m none b)
-cut_event m (some s) b h U small name pattern l = go (step_of (length m) (views m) s b) refl
+cut_event m None b h U small name pattern l = stays (world m None b)
+cut_event m (Some s) b h U small name pattern l = go (step_of (length m) (views m) s b) refl
   where
-    go : (st : Answer Step) → step_of (length m) (views m) s b ≡ st → AsEvent (world m (some s) b) (played_cut (world m (some s) b) name pattern st).moment
-    go (refused n) e = stays (world m (some s) b)
+    go : (st : Answer Step) → step_of (length m) (views m) s b ≡ st → AsEvent (world m (Some s) b) (played_cut (world m (Some s) b) name pattern st).moment
+    go (refused n) e = stays (world m (Some s) b)
     go (gives d) e =
         by_cases (eqb name (name_of d))
-        (λ q. rw q (struck (world m (some s) b) (gives d) (left_by_cut m d pattern) e (pattern_cut m s b h U (step_of (length m) (views m) s b) (due_good m s b h U) small d name pattern e q l)))
-        (λ q. rw q (stays (world m (some s) b)))
+        (λ q. rw q (struck (world m (Some s) b) (gives d) (left_by_cut m d pattern) e (pattern_cut m s b h U (step_of (length m) (views m) s b) (due_good m s b h U) small d name pattern e q l)))
+        (λ q. rw q (stays (world m (Some s) b)))
 
 recovery_event : (w : World) (a : Answer Recovery) → recover_in w ≡ a → AsEvent w (played_recovery w a).moment
 unfolding played_recovery happen recovered
@@ -158,8 +158,8 @@ unfolding with_state
 held_medium w f k = go w.state
   where
     go : (o : Option Held) → (with_state o (still w) f).after.medium ≡ w.medium
-    go none = refl
-    go (some s) = k s
+    go None = refl
+    go (Some s) = k s
 
 pub happen_length : (m : List ℕ) (s : Option Held) (b : List ℕ) (h : History) (e : Event (world m s b)) → Upheld (world m s b) h → length (happen (world m s b) e).after.medium ≡ length m
 unfolding happen
@@ -168,11 +168,11 @@ happen_length m s b h Event.commit U = ap length (held_medium (world m s b) _ (�
 happen_length m s b h (Event.collect k) U = ap length (held_medium (world m s b) _ (λ t. called_medium (world m s b) _ _))
 happen_length m s b h (Event.buffer ks ws x y) U = ap length (held_medium (world m s b) _ (λ t. filled_medium (world m s b) _ _))
 happen_length m s b h Event.flush U = ap length (held_medium (world m s b) _ (λ t. called_medium (world m s b) _ _))
-happen_length m none b h Event.step U = unfold step_due with_state stepped in refl
-happen_length m (some s) b h Event.step U =
-    unfold step_due with_state in (ap length (stepped_medium (world m (some s) b) _) ∙ step_length m s b h U _ (due_good m s b h U))
+happen_length m None b h Event.step U = unfold step_due with_state stepped in refl
+happen_length m (Some s) b h Event.step U =
+    unfold step_due with_state in (ap length (stepped_medium (world m (Some s) b) _) ∙ step_length m s b h U _ (due_good m s b h U))
 happen_length m s b h Event.recover U = ap length (recovered_medium (world m s b) _)
 happen_length m s b h Event.read U = refl
 happen_length m s b h Event.cut U = refl
-happen_length m none b h (Event.cut_inside left c) U = absurd (unfold step_due with_state CutOf in c)
-happen_length m (some s) b h (Event.cut_inside left c) U = unfold step_due with_state in cut_length m s b h U left _ c
+happen_length m None b h (Event.cut_inside left c) U = absurd (unfold step_due with_state CutOf in c)
+happen_length m (Some s) b h (Event.cut_inside left c) U = unfold step_due with_state in cut_length m s b h U left _ c

@@ -1,6 +1,6 @@
 -- Each recorded call played is that event of the list of calls and power cuts.
 use mathlib.Core.Path.{◌≡◌, refl, sym}
-use mathlib.Core.Option.{Option, none, some}
+use Rattle.std.proofs.Common.{Option, None, Some}
 use mathlib.Core.List.{List}
 use Prim.Native.Nat.{ℕ, ◌≤◌}
 use lib.ListN.{length}
@@ -60,8 +60,8 @@ module _ (w : World) (name : ℕ) (pattern : List ℕ) where
 cut_allowed : (m : List ℕ) (s : Option Held) (b : List ℕ) (h : History) → Upheld (world m s b) h → length m ≤ 65536 → (name : ℕ) (pattern : List ℕ)
     → length pattern ≡ pattern_size name → (due : Step) → step_due (world m s b) ≡ gives due → name ≡ name_of due → CutOf m (step_due (world m s b)) (left_by_cut m due pattern)
 unfolding step_due with_state
-cut_allowed m none b h U small name pattern l due e q = given_refused due 9 (sym e)
-cut_allowed m (some s) b h U small name pattern l due e q =
+cut_allowed m None b h U small name pattern l due e q = given_refused due 9 (sym e)
+cut_allowed m (Some s) b h U small name pattern l due e q =
     pattern_cut m s b h U (step_of (length m) (views m) s b) (due_good m s b h U) small due name pattern e (eq-eqb name (name_of due) q) l
 
 cut_as_event : (w : World) (name : ℕ) (pattern : List ℕ) (h : History) → Reached w h → length w.medium ≤ 65536 → length pattern ≡ pattern_size name

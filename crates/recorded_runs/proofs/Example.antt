@@ -1,7 +1,7 @@
 -- The lines of the example, from the worlds that its calls lead to.
 use mathlib.Core.Path.{◌≡◌, refl, sym, ap, subst, ◌∙◌}
 use mathlib.Core.Bool.{Bool, true, false, cond}
-use mathlib.Core.Option.{some}
+use Rattle.std.proofs.Common.{Some}
 use mathlib.Core.List.{List, [], ◌∷◌, ◌++◌, append-nil}
 use Prim.Native.Nat.{ℕ, ◌^◌, ◌≤◌, ◌<◌}
 use native.Mathlib.Omega.{arith}
@@ -99,7 +99,7 @@ module _ (w : World) (F : FormattedWorld 4 w) where
 
   -- after the append, and after its step
   abbrev pub appending : World
-  appending = world w.medium (some (starting s (append group []))) fresh
+  appending = world w.medium (Some (starting s (append group []))) fresh
 
   begun : append_in w (1 ∷ 2 ∷ []) (5 ∷ 7 ∷ []) ≡ gives (starting s (append group []))
   unfolding with_held with_state
@@ -109,7 +109,7 @@ module _ (w : World) (F : FormattedWorld 4 w) where
   unfolding step_due with_state
   due_there = rw (F.long, F.sees) (writes F.records)
 
-  pub append_played : (played w appends).moment ≡ moment w.medium (some (starting s (append group []))) fresh (began_append group)
+  pub append_played : (played w appends).moment ≡ moment w.medium (Some (starting s (append group []))) fresh (began_append group)
   unfolding played
   append_played = rw begun (unfold called zip in (rw F.buffer refl))
 

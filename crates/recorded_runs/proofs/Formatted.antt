@@ -1,7 +1,7 @@
 -- A run up to the end of formatting: its lines, and the world that it leads to.
 use mathlib.Core.Path.{◌≡◌, refl, ap, subst, ◌∙◌}
 use mathlib.Core.Bool.{Bool, true, false}
-use mathlib.Core.Option.{none, some}
+use Rattle.std.proofs.Common.{None, Some}
 use mathlib.Core.List.{List, [], ◌∷◌, ◌++◌}
 use Prim.Native.Nat.{ℕ, zero, suc, ◌+◌, ◌-◌, ◌*◌, ◌/◌, ◌≤◌}
 use native.Mathlib.Omega.{arith}
@@ -38,7 +38,7 @@ quiet (gives s) k = refl
 pub record FormattedWorld (n : ℕ) (w : World) : Type 0 where
   pub reached : Reached w no_history
   pub records : List Bool
-  pub state : w.state ≡ some (started n records)
+  pub state : w.state ≡ Some (started n records)
   pub buffer : w.buffer ≡ fresh
   pub long : length w.medium ≡ 4096 * n
   pub sees : views w.medium ≡ whole base_page ∷ replicate (16 * n - 1) clean
@@ -47,11 +47,11 @@ module _ (n : ℕ) (low : 4 ≤ n) (high : n ≤ 16) where
   abbrev at : ℕ → World
   at k = steps_on k (first n low high)
 
-  format_quiet : (played (world (blank (4096 * n)) none fresh) (Recorded.format n)).lines ≡ []
+  format_quiet : (played (world (blank (4096 * n)) None fresh) (Recorded.format n)).lines ≡ []
   unfolding played
   format_quiet = rw (ends n low high).begun (unfold refusal_lines in refl)
 
-  format_goes : (played (world (blank (4096 * n)) none fresh) (Recorded.format n)).ends ≡ false
+  format_goes : (played (world (blank (4096 * n)) None fresh) (Recorded.format n)).ends ≡ false
   unfolding played
   format_goes = refl
 
@@ -73,9 +73,9 @@ module _ (n : ℕ) (low : 4 ≤ n) (high : n ≤ 16) where
   unfolding steps_on
   first_lines cs = steps_lines (suc n) 0 cs (omega arith)
 
-  pub format_lines : (cs : List Recorded) → lines_from (world (blank (4096 * n)) none fresh) (Recorded.format n ∷ replicate (suc n) Recorded.step ++ cs) ≡ lines_from (at (suc n)) cs
+  pub format_lines : (cs : List Recorded) → lines_from (world (blank (4096 * n)) None fresh) (Recorded.format n ∷ replicate (suc n) Recorded.step ++ cs) ≡ lines_from (at (suc n)) cs
   format_lines cs =
-      line_next (world (blank (4096 * n)) none fresh) (first n low high) (Recorded.format n) (replicate (suc n) Recorded.step ++ cs) format_quiet format_goes (format_leads n low high)
+      line_next (world (blank (4096 * n)) None fresh) (first n low high) (Recorded.format n) (replicate (suc n) Recorded.step ++ cs) format_quiet format_goes (format_leads n low high)
       ∙ first_lines cs
 
   -- ---- the world there
@@ -113,7 +113,7 @@ module _ (n : ℕ) (low : 4 ≤ n) (high : n ≤ 16) where
       record {
         reached = reached_there;
         records = B.erased;
-        state = B.holds ∙ ap (λ (k : ℕ). some (started k B.erased)) b;
+        state = B.holds ∙ ap (λ (k : ℕ). Some (started k B.erased)) b;
         buffer = empty (suc n);
         long = long;
         sees = B.sees ∙ ap (λ (k : ℕ). whole base_page ∷ replicate k clean) p;

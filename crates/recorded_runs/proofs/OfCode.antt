@@ -14,13 +14,12 @@ use Rattle.page.specs.Buffer.{buffer_bytes}
 use Rattle.trace.proofs.Form.{formed_call, blocks_high}
 use Rattle.valve_log.specs.Reached.{World}
 use Rattle.trace.specs.Trace.{Recorded, call_count, number_at, recorded_at, recorded, well_formed}
-use Rattle.player.specs.declared.LastState.{LastState}
 use Rattle.player.specs.declared.Reply.{Reply}
 use Rattle.reply_lines.specs.declared.PrintedLine.{PrintedLine}
 use Rattle.player.specs.Lines.{Line}
 use Rattle.player.specs.Run.{start_world, lines_from, lines_of}
 use Rattle.cut_patterns.specs.Struck.{most_bytes}
-use Rattle.player.specs.Played.{held_by, world_by, lines_by, FewSet, Plays, Starts, PlaysAt}
+use Rattle.player.specs.Played.{LastState, held_by, world_by, lines_by, FewSet, Plays, Starts, PlaysAt}
 use Rattle.reply_lines.specs.Printed.{line_of}
 use Rattle.recorded_runs.specs.Recorded.{PrintsHistory}
 use Rattle.recorded_runs.specs.OfCode.{no_line, HandedLines, lines_printed, CallPlayed, PlaysOn, Reruns, PrintsOfCode}

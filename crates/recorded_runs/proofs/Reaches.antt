@@ -1,7 +1,7 @@
 -- Where a recorded run leads.
 use mathlib.Core.Path.{◌≡◌, refl, ap, ap₂, ◌∙◌}
 use mathlib.Core.Bool.{true}
-use mathlib.Core.Option.{none, some}
+use Rattle.std.proofs.Common.{None, Some}
 use mathlib.Core.List.{List, [], ◌∷◌}
 use Prim.Native.Nat.{ℕ, zero, suc, ◌+◌, ◌*◌, ◌/◌, ◌≤◌, ◌<◌}
 use native.Mathlib.Omega.{arith}
@@ -68,12 +68,12 @@ module _ (n : ℕ) (low : 4 ≤ n) (high : n ≤ 16) where
 
   -- the world that the format leads to
   abbrev pub first : World
-  first = world medium (some ends.state) fresh
+  first = world medium (Some ends.state) fresh
 
   pub blocks : length medium / 4096 ≡ n
   blocks = ap (λ (k : ℕ). k / 4096) (length_blank (4096 * n)) ∙ (omega arith)
 
-  pub format_leads : (played (world medium none fresh) (Recorded.format n)).moment.after ≡ first
+  pub format_leads : (played (world medium None fresh) (Recorded.format n)).moment.after ≡ first
   unfolding played begun_format
   format_leads = rw ends.begun refl
 

@@ -14,25 +14,28 @@ use Rattle.codec.proofs.Put.{length_blank}
 use Rattle.page.specs.Buffer.{buffer_bytes}
 use Rattle.valve_log.specs.Reached.{fresh}
 use Rattle.trace.specs.Trace.{call_count, number_at, well_formed}
-use Rattle.player.specs.declared.LastState.{LastState}
+use Rattle.std.proofs.Common.{None}
+use Rattle.player.specs.declared.Told.{Told}
+use Rattle.player.specs.declared.Told.TheVariants.{Nothing, Refused, Recovered}
 use Rattle.player.specs.declared.Reply.{Reply}
 use Rattle.reply_lines.specs.declared.PrintedLine.{PrintedLine}
+use Rattle.reply_lines.specs.declared.PrintedLine.TheVariants as printed
 use Rattle.player.specs.Lines.{Line}
-use Rattle.player.specs.Played.{lines_by, Starts}
-use Rattle.reply_lines.specs.Printed.{line_of, CountsLines}
+use Rattle.player.specs.Played.{LastState, lines_by, Starts}
+use Rattle.reply_lines.specs.Printed.{many_set, line_of, CountsLines}
 use Rattle.reply_lines.proofs.Laws.{count_refused, count_none, count_summary}
 use Rattle.recorded_runs.specs.OfCode.{no_line, HandedLines, lines_printed, PlaysOn, Reruns, ComesTo, PlayAnswers, Rerun, RunsOfCode}
 
 -- ---- lines as they are handed over
 
 unfoldable handed_as : Line → PrintedLine
-handed_as (Line.refusal n) = record { kind = 0; first = n; second = 0 }
-handed_as (Line.log_length n) = record { kind = 1; first = n; second = 0 }
-handed_as (Line.valves_set n) = record { kind = 2; first = n; second = 0 }
-handed_as (Line.setting k w) = record { kind = 3; first = k; second = w }
+handed_as (Line.refusal n) = printed.Refusal n
+handed_as (Line.log_length n) = printed.LogLength n
+handed_as (Line.valves_set n) = printed.ValvesSet n
+handed_as (Line.setting k w) = printed.Setting k w
 
 handed_back : (l : Line) → line_of (handed_as l) ≡ l
-unfolding handed_as line_of
+unfolding handed_as
 handed_back (Line.refusal n) = refl
 handed_back (Line.log_length n) = refl
 handed_back (Line.valves_set n) = refl
@@ -58,12 +61,12 @@ same_count : (r : Reply) (n : ℕ) (m : List ℕ) → CountsLines n r → Counts
 same_count r n m C = record { is = λ x. sym (C.is m) ∙ C.is x }
 
 counts : (r : Reply) (m : List ℕ) → CountsLines (length (lines_by m r)) r
-counts r m =
-    by_cases (eqb r.number 0)
-    (λ q.
-    let z = eqb-true r.number 0 q in
-    by_cases (not r.recovered) (λ e. same_count r 0 m (count_none r z e)) (λ e. same_count r (2 + r.last.state.index.count) m (count_summary r z e)))
-    (λ q. same_count r 1 m (count_refused r (eqb-false r.number 0 q)))
+counts r m = go r.told refl
+  where
+    go : (t : Told) → r.told ≡ t → CountsLines (length (lines_by m r)) r
+    go Nothing e = same_count r 0 m (count_none r e)
+    go (Refused n) e = same_count r 1 m (count_refused r n e)
+    go (Recovered log) e = same_count r (2 + many_set r.last) m (count_summary r log e (many_set r.last) refl)
 
 handed : (m : List ℕ) (r : Reply) → HandedLines m r (all_handed (lines_by m r))
 handed m r =
@@ -97,25 +100,9 @@ module _ (t : List ℕ) (A : PlayAnswers t) where
 
 -- ---- where it starts
 
-abbrev no_cells : Cells
-no_cells = record { count = 0; keys = []; vals = [] }
-
--- no state: what a lost one holds does not matter
+-- no state
 abbrev no_state : LastState
-no_state =
-    record {
-      lost = true;
-      state =
-          record {
-            head = record { blocks = 0; block = 0; next = 0; serial = 0; base = 0 };
-            index = no_cells;
-            group = no_cells;
-            pages = [];
-            operation = 0;
-            progress = 0;
-            erased = [];
-          };
-    }
+no_state = None
 
 starts : (n : ℕ) → Starts (blank n) no_state (blank n) fresh
 starts n = record { medium = ap blank (sym (length_blank n)); stateless = refl; buffer = refl }

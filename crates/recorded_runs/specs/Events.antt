@@ -1,7 +1,7 @@
 -- Paper 13's calls are those of the valve log's list: "we replay its recorded calls". Each recorded call played is that event of the list, with what the
 -- history is told of it; so what is said of `played` elsewhere is said of the journal's calls and of power cuts.
 use Rattle.std.specs.Prelude.{◌≡◌, true, false, List, [], ◌∷◌, ℕ, ◌^◌, ◌≤◌, length}
-use Rattle.std.proofs.Math.Option.{some}
+use Rattle.std.specs.Prelude.{Some}
 use Rattle.lists.specs.Lists.{Below}
 use Rattle.lists.specs.Needs.{Answer, refused, gives}
 use Rattle.flash.specs.Medium.{views}
@@ -37,13 +37,13 @@ pub record EndsRun (w : World) (c : Recorded) (n : ℕ) : Type 0 where
 -- the calls that are made with a state s, on medium m and with buffer b: codes 2, 3, 4, 5, 8 and 9
 pub record CallsAsEvents (m : List ℕ) (s : Held) (b : List ℕ) : Type 0 where
   pub append : (ks ws : List ℕ) (narrow : Below (2 ^ 16) ks) (small : Below (2 ^ 64) ws)
-      → PlayedAs (world m (some s) b) (Recorded.append ks ws) (Event.append ks ws narrow small) (append_of (length m) (views m) s b ks ws)
-  pub commit : PlayedAs (world m (some s) b) Recorded.commit Event.commit (commit_of (length m) (views m) s b)
-  pub collect : (n : ℕ) → PlayedAs (world m (some s) b) (Recorded.collect n) (Event.collect n) (collect_of (length m) (views m) s b n)
-  pub step : PlayedAs (world m (some s) b) Recorded.step Event.step (step_of (length m) (views m) s b)
+      → PlayedAs (world m (Some s) b) (Recorded.append ks ws) (Event.append ks ws narrow small) (append_of (length m) (views m) s b ks ws)
+  pub commit : PlayedAs (world m (Some s) b) Recorded.commit Event.commit (commit_of (length m) (views m) s b)
+  pub collect : (n : ℕ) → PlayedAs (world m (Some s) b) (Recorded.collect n) (Event.collect n) (collect_of (length m) (views m) s b n)
+  pub step : PlayedAs (world m (Some s) b) Recorded.step Event.step (step_of (length m) (views m) s b)
   pub buffer : (ks ws : List ℕ) (narrow : Below (2 ^ 16) ks) (small : Below (2 ^ 64) ws)
-      → PlayedAs (world m (some s) b) (Recorded.buffer ks ws) (Event.buffer ks ws narrow small) (buffer_of (length m) (views m) s b ks ws)
-  pub flush : PlayedAs (world m (some s) b) Recorded.flush Event.flush (flush_of (length m) (views m) s b)
+      → PlayedAs (world m (Some s) b) (Recorded.buffer ks ws) (Event.buffer ks ws narrow small) (buffer_of (length m) (views m) s b ks ws)
+  pub flush : PlayedAs (world m (Some s) b) Recorded.flush Event.flush (flush_of (length m) (views m) s b)
 
 -- a recovery, with or without a state: "after each recovery the log length and settings, or its refusal"; "a refused recovery [..] ends it"
 pub record RecoversAsEvent (w : World) (r : Recovery) : Type 0 where

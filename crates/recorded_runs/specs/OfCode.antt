@@ -6,12 +6,12 @@ use Rattle.std.specs.Prelude.{◌≡◌, Bool, true, false, List, [], ◌∷◌,
 use Rattle.lists.specs.Lists.{Bytes}
 use Rattle.page.specs.Buffer.{buffer_bytes}
 use Rattle.trace.specs.Trace.{call_count, number_at, data_start, well_formed, recorded}
-use Rattle.player.specs.declared.LastState.{LastState}
 use Rattle.player.specs.declared.Reply.{Reply}
 use Rattle.reply_lines.specs.declared.PrintedLine.{PrintedLine}
+use Rattle.reply_lines.specs.declared.PrintedLine.TheVariants as printed
 use Rattle.player.specs.Lines.{Line}
 use Rattle.player.specs.Run.{start_world, lines_of}
-use Rattle.player.specs.Played.{FewSet, Starts, Playable, PlaysAt}
+use Rattle.player.specs.Played.{LastState, FewSet, Starts, Playable, PlaysAt}
 use Rattle.reply_lines.specs.Printed.{line_of, CountsLines, GivesLine}
 use Rattle.recorded_runs.specs.Recorded.{Phase, told_from}
 
@@ -19,7 +19,7 @@ use Rattle.recorded_runs.specs.Recorded.{Phase, told_from}
 
 -- what stands past the end of a list of lines
 abbrev pub no_line : PrintedLine
-no_line = record { kind = 0; first = 0; second = 0 }
+no_line = printed.Refusal 0
 
 -- the lines that are handed over for a reply, with medium m as the call left it: as many as `line_count` says, each by `line`
 pub record HandedLines (m : List ℕ) (r : Reply) (ls : List PrintedLine) : Type 0 where

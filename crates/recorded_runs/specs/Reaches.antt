@@ -1,7 +1,7 @@
 -- Where a recorded run leads: once formatting has finished, to a world and a history of the valve log's statement. So point 3 and every other theorem
 -- about such worlds speak of it; and formatting does finish.
 use Rattle.std.specs.Prelude.{◌≡◌, true, List, [], ◌∷◌, ℕ, suc, ◌*◌, ◌≤◌, take, replicate}
-use Rattle.std.proofs.Math.Option.{none}
+use Rattle.std.specs.Prelude.{None}
 use Rattle.lists.specs.Lists.{Bytes}
 use Rattle.codec.specs.Codec.{blank}
 use Rattle.valve_log.specs.History.{History, start as no_history}
@@ -30,4 +30,4 @@ RunsReach =
 -- a format of n blocks and n + 1 steps: the history starts there
 unfoldable pub FormatsInRun : Type 0
 FormatsInRun =
-    (n : ℕ) → 4 ≤ n → n ≤ 16 → phase_over Phase.formatting (world (blank (4096 * n)) none fresh) (Recorded.format n ∷ replicate (suc n) Recorded.step) ≡ Phase.since no_history
+    (n : ℕ) → 4 ≤ n → n ≤ 16 → phase_over Phase.formatting (world (blank (4096 * n)) None fresh) (Recorded.format n ∷ replicate (suc n) Recorded.step) ≡ Phase.since no_history

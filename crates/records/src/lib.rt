@@ -35,32 +35,25 @@ fn start() -> Notes
 }
 
 // Whether the valves so far rise strictly below 32768, and still do with one more.
+#[tactic(auto, unfolding(crate::specs::Records::still_rises))]
 fn still_rises(rises: bool, least: u64, valve: u16) -> bool
     ensures { result ≡ still_rises rises least valve }
 {
-    if !rises {
-        return false;
-    }
-    if (valve as u64) < least {
-        return false;
-    }
-    valve < 32768
+    rises && least <= valve as u64 && valve < 32768
 }
 
 // One record more.
 fn note(n: Notes, r: Record) -> Notes
     ensures { result ≡ noted n r }
 {
-    let mut q = n;
-    q.rises = still_rises(n.rises, n.least, r.valve);
-    q.least = r.valve as u64 + 1;
-    let at = n.count;
-    if 192 <= at {
-        q.count = 193;
-        return q;
+    let rises = still_rises(n.rises, n.least, r.valve);
+    let least = r.valve as u64 + 1;
+    let count = if 192 <= n.count { 193 } else { n.count + 1 };
+    Notes {
+        rises,
+        least,
+        count,
     }
-    q.count = at + 1;
-    q
 }
 
 // The records of a lent list, noted one by one, however many they are.
@@ -68,10 +61,8 @@ pub fn gather(list: &[Record]) -> Notes
     ensures { result ≡ noted_all unnoted list.now }
 {
     let mut n = start();
-    let mut i: usize = 0;
-    while i < list.len() {
-        n = note(n, list[i]);
-        i += 1;
+    for r in list {
+        n = note(n, *r);
     }
     n
 }

@@ -52,7 +52,10 @@ fn bases(rt: &(impl Print + Eprint)) {
 fn other_medium(rt: &(impl Print + Eprint)) {
     let mut m = [255u8; 16384];
     let t = trials::play(&mut m, &[FORMATTED]);
-    let b = journal_c::vj_commit(&[255u8; 20480], t.state, &[255u8; 256]);
+    let Some(s) = t.state else {
+        return;
+    };
+    let b = journal_c::vj_commit(&[255u8; 20480], s, &[255u8; 256]);
     print::answer(rt, b"7 state of 4 blocks, medium of 5: ", b.number);
 }
 
@@ -112,15 +115,18 @@ fn short_lists(rt: &(impl Print + Eprint)) {
     let mut m = [255u8; 16384];
     trials::play(&mut m, &[FORMATTED, APPENDED, 3, 5, 7, 5, 1000, 20, 30]);
     let r = filing::log(&m, &mut [0u16; 3], &mut [0u64; 3], &mut [0u32; 2]);
-    print::answer(rt, b"17 3 changes, 2 places: ", r.number);
+    print::answer(rt, b"17 3 changes, 2 places: ", refusal::number_in(r));
 }
 
 // 18: a valve that is not set.
 fn unset_valve(rt: &(impl Print + Eprint)) {
     let mut m = [255u8; 16384];
     let t = trials::play(&mut m, &[FORMATTED]);
-    let r = read::opening(&m, t.state, 5);
-    print::answer(rt, b"18 valve 5 after format: ", r.number);
+    let Some(s) = t.state else {
+        return;
+    };
+    let r = read::opening(&m, &s, 5);
+    print::answer(rt, b"18 valve 5 after format: ", refusal::number_in(r));
 }
 
 // What a span of the log did, after a list of calls.
@@ -169,11 +175,8 @@ fn buffers(rt: &(impl Print + Eprint)) {
 
 // Whether a trace has the form; 26 is its negation.
 fn say_form(rt: &(impl Print + Eprint), text: &[u8], t: &[u8]) {
-    if trace::is_well_formed(t) {
-        print::answer(rt, text, 0);
-        return;
-    }
-    print::answer(rt, text, 26);
+    let number = if trace::is_well_formed(t) { 0 } else { 26 };
+    print::answer(rt, text, number);
 }
 
 // 26: the trace of one call, a format of 4 blocks, with a byte after it; and of 3 blocks.

@@ -16,11 +16,23 @@ use Rattle.page.specs.Pages.{View}
 use Rattle.flash.specs.Medium.{views}
 use Rattle.nodes.specs.Nodes.{word_at, words}
 use Rattle.nodes.proofs.Alive.{words_length}
+use Rattle.std.proofs.Common.{Option, None, Some}
+use Rattle.std.specs.Prelude.{unwrap_or}
+use Rattle.state.specs.declared.State.{State}
+use Rattle.player.specs.declared.Told.{Told}
+use Rattle.player.specs.declared.Told.TheVariants.{Nothing, Refused, Recovered}
 use Rattle.player.specs.declared.Reply.{Reply}
 use Rattle.player.specs.Lines.{Line, setting_lines}
-use Rattle.player.specs.Played.{settings_by, lines_by, FewSet}
+use Rattle.player.specs.Played.{LastState, settings_in, lines_told, lines_by, FewSet}
 use Rattle.reply_lines.specs.declared.PrintedLine.{PrintedLine}
-use Rattle.reply_lines.specs.Printed.{CountsLines, GivesLine, GivesSetting, line_of}
+use Rattle.reply_lines.specs.declared.PrintedLine.TheVariants as printed
+use Rattle.reply_lines.specs.Printed.{many_set, summary_told, CountsLines, GivesLineOf, GivesLine, GivesSetting, line_of}
+
+-- a word, or 0
+pub word_or : (o o' : Option ℕ) (x : ℕ) → o ≡ o' → x ≡ unwrap_or o 0 → x ≡ value_or 0 o'
+unfolding value_or
+word_or o None x e q = rw e at q
+word_or o (Some y) x e q = rw e at q
 
 lines_long : (l : List Setting) → length (setting_lines l) ≡ length l
 unfolding setting_lines
@@ -35,8 +47,7 @@ line_at v (x ∷ l) zero h = refl
 line_at v (x ∷ l) (suc i) h = line_at v l i (omega arith)
 
 pub setting_is : (v : List View) (c : Cells) (i w : ℕ) → i < c.count → w ≡ value_or 0 (word_at v (cell (get_or c.keys i 0) (get_or c.vals i 0)))
-    → GivesSetting (words v (listed c)) i (record { kind = 3; first = get_or c.keys i 0; second = w })
-unfolding line_of
+    → GivesSetting (words v (listed c)) i (printed.Setting (get_or c.keys i 0) w)
 setting_is v c i w h e =
     let k : get_or (listed c) i (cell 0 0) ≡ cell (get_or c.keys i 0) (get_or c.vals i 0) = get_pairs c.count c.keys c.vals i h in
     record {
@@ -45,80 +56,109 @@ setting_is v c i w h e =
           ∙ line_at v (listed c) i (omega (arith, length_pairs c.count c.keys c.vals));
     }
 
+pub many_are : (m : List ℕ) (l : LastState) → length (settings_in m l) ≡ many_set l
+unfolding settings_in many_set
+many_are m None = refl
+many_are m (Some s) = words_length (views m) (listed s.index) ∙ length_pairs s.index.count s.index.keys s.index.vals
+
+pub many_none : (l : LastState) → l ≡ None → 0 ≡ many_set l
+unfolding many_set
+many_none l e = rw e
+
+pub many_some : (l : LastState) (s : State) → l ≡ Some s → s.index.count ≡ many_set l
+unfolding many_set
+many_some l s e = rw e
+
 module _ (r : Reply) where
-  pub count_refused : (r.number ≡ 0 → ⊥) → CountsLines 1 r
-  unfolding lines_by
-  count_refused h = record { is = λ m. rw (ne_eqb r.number 0 h) }
+  pub count_none : r.told ≡ Nothing → CountsLines 0 r
+  unfolding lines_told
+  count_none e = record { is = λ m. ap (λ (t : Told). length (lines_told t (settings_in m r.last))) (sym e) }
 
-  module _ (z : r.number ≡ 0) where
-    pub count_none : not r.recovered ≡ true → CountsLines 0 r
-    unfolding lines_by
-    count_none q = record { is = λ m. rw (eq-eqb r.number 0 z, not-true r.recovered q) }
+  module _ (n : ℕ) (e : r.told ≡ Refused n) where
+    pub count_refused : CountsLines 1 r
+    unfolding lines_told
+    count_refused = record { is = λ m. ap (λ (t : Told). length (lines_told t (settings_in m r.last))) (sym e) }
 
-    -- the lines of a recovery
-    summary_lines : (m : List ℕ) → r.recovered ≡ true → lines_by m r ≡ Line.log_length r.log ∷ Line.valves_set (length (settings_by m r)) ∷ setting_lines (settings_by m r)
-    unfolding lines_by
-    summary_lines m q = rw (eq-eqb r.number 0 z, q)
+  module _ (log : ℕ) (e : r.told ≡ Recovered log) where
+    pub told_lines : (m : List ℕ) → lines_by m r ≡ summary_told m log r.last
+    unfolding summary_told
+    told_lines m = ap (λ (t : Told). lines_told t (settings_in m r.last)) e
 
-    set_many : (m : List ℕ) → length (settings_by m r) ≡ r.last.state.index.count
-    unfolding settings_by
-    set_many m = words_length (views m) (listed r.last.state.index) ∙ length_pairs r.last.state.index.count r.last.state.index.keys r.last.state.index.vals
+    summary_long : (m : List ℕ) → 2 + many_set r.last ≡ length (summary_told m log r.last)
+    unfolding summary_told lines_told
+    summary_long m = let a = lines_long (settings_in m r.last) in let b = many_are m r.last in omega arith
 
-    pub count_summary : not r.recovered ≡ false → CountsLines (2 + r.last.state.index.count) r
-    count_summary q =
-        record {
-          is = λ m.
-              let k : length (lines_by m r) ≡ suc (suc (length (setting_lines (settings_by m r)))) = ap (λ (l : List Line). length l) (summary_lines m (not-false r.recovered q)) in
-              omega (arith, k, lines_long (settings_by m r), set_many m);
-        }
+    pub count_summary : (n : ℕ) → n ≡ many_set r.last → CountsLines (2 + n) r
+    count_summary n q = record { is = λ m. ap (λ (k : ℕ). 2 + k) q ∙ summary_long m ∙ ap length (sym (told_lines m)) }
 
-    pub count_fits : FewSet r → not r.recovered ≡ false → Fits w64 (2 + r.last.state.index.count)
-    count_fits f q = let k = f.most (not-false r.recovered q) in omega arith
+    pub few_many : FewSet r → many_set r.last ≤ 192
+    unfolding many_set
+    few_many f = go r.last refl
+      where
+        go : (l : LastState) → r.last ≡ l → many_set l ≤ 192
+        go None q = omega arith
+        go (Some s) q = f.most log s e q
 
-  -- line k
-  module _ (m : List ℕ) (k n : ℕ) (p : CountsLines n r) where
-    pub line_past : n ≤ k → (x : PrintedLine) → x ≡ record { kind = 0; first = 0; second = 0 } → GivesLine m r k x
-    unfolding line_of
-    line_past h x q = record { is = ap line_of q ∙ sym (get_or-eq_default (lines_by m r) (Line.refusal 0) {n = k} (omega (arith, p.is m))) }
+    pub count_fits : (n : ℕ) → FewSet r → n ≡ many_set r.last → Fits w64 (2 + n)
+    count_fits n f q = let k = few_many f in omega arith
 
-    module _ (h : k < n) where
-      pub line_refused : (r.number ≡ 0 → ⊥) → (x : PrintedLine) → x ≡ record { kind = 0; first = r.number; second = 0 } → GivesLine m r k x
-      unfolding line_of lines_by
-      line_refused z x q =
-          let e : lines_by m r ≡ Line.refusal r.number ∷ [] = rw (ne_eqb r.number 0 z) in
-          let one : length (lines_by m r) ≡ 1 = ap (λ (l : List Line). length l) e in
-          let i : k ≡ 0 = omega (arith, p.is m, one, h) in
-          record { is = ap line_of q ∙ rw (e, i) }
+  module _ (n k : ℕ) (p : CountsLines n r) where
+    module _ (m : List ℕ) where
+      pub line_past : n ≤ k → GivesLine m r k (printed.Refusal 0)
+      line_past h = record { is = sym (get_or-eq_default (lines_by m r) (Line.refusal 0) {n = k} (omega (arith, p.is m))) }
 
-      module _ (z : r.number ≡ 0) where
-        recovered_then : r.recovered ≡ true
-        unfolding lines_by
-        recovered_then =
-            by_cases r.recovered (λ q. q)
-            (λ q.
-            let e : lines_by m r ≡ [] = rw (eq-eqb r.number 0 z, q) in
-            let o : length (lines_by m r) ≡ 0 = ap (λ (l : List Line). length l) e in
-            absurd (omega (arith, p.is m, o, h)))
+      pub line_none : r.told ≡ Nothing → GivesLine m r k (printed.Refusal 0)
+      unfolding lines_told
+      line_none e = record { is = ap (λ (t : Told). get_or (lines_told t (settings_in m r.last)) k (Line.refusal 0)) (sym e) }
 
-        pub line_log : k ≡ 0 → (x : PrintedLine) → x ≡ record { kind = 1; first = r.log; second = 0 } → GivesLine m r k x
-        unfolding line_of
-        line_log i x q = record { is = ap line_of q ∙ rw (summary_lines z m recovered_then, i) }
+      pub line_refused : (x : ℕ) → r.told ≡ Refused x → k < n → GivesLine m r k (printed.Refusal x)
+      unfolding lines_told
+      line_refused x e h =
+          let a = p.is m in
+          let b = (count_refused x e).is m in
+          let z : k ≡ 0 = omega arith in
+          record { is = ap (λ (i : ℕ). get_or (Line.refusal x ∷ []) i (Line.refusal 0)) (sym z) ∙ ap (λ (t : Told). get_or (lines_told t (settings_in m r.last)) k (Line.refusal 0)) (sym e) }
 
-        module _ (j : k ≡ 0 → ⊥) where
-          pub line_set : k ≡ 1 → (x : PrintedLine) → x ≡ record { kind = 2; first = r.last.state.index.count; second = 0 } → GivesLine m r k x
-          unfolding line_of
-          line_set i x q = record { is = ap line_of q ∙ rw (summary_lines z m recovered_then, i, set_many z m) }
+      module _ (log : ℕ) (e : r.told ≡ Recovered log) where
+        pub line_recovered : (x : PrintedLine) → GivesLineOf (summary_told m log r.last) k x → GivesLine m r k x
+        line_recovered x g = record { is = g.is ∙ ap (λ (ls : List Line). get_or ls k (Line.refusal 0)) (sym (told_lines log e m)) }
 
-          module _ (i : k ≡ 1 → ⊥) where
-            pub line_place : k - 2 < r.last.state.index.count
-            line_place = omega (arith, h, j, i, p.is m, ap (λ (l : List Line). length l) (summary_lines z m recovered_then), lines_long (settings_by m r), set_many z m)
+    pub line_place : (log : ℕ) → r.told ≡ Recovered log → k < n → k < 2 + many_set r.last
+    line_place log e h = let a = p.is [] in let b = (count_summary log e (many_set r.last) refl).is [] in omega arith
 
-            pub line_few : FewSet r → r.last.state.index.count ≤ 192
-            line_few f = f.most recovered_then
+-- the lines of a recovery
+module _ (m : List ℕ) (log : ℕ) (l : LastState) (k : ℕ) where
+  pub recovery_log : k ≡ 0 → GivesLineOf (summary_told m log l) k (printed.LogLength log)
+  unfolding summary_told lines_told
+  recovery_log e = record { is = ap (λ (i : ℕ). get_or (summary_told m log l) i (Line.refusal 0)) (sym e) }
 
-            pub line_setting : (x : PrintedLine) → GivesSetting (words (views m) (listed r.last.state.index)) (k - 2) x → GivesLine m r k x
-            unfolding settings_by
-            line_setting x g =
-                let e : k ≡ suc (suc (k - 2)) = omega (arith, j, i) in
-                let t : get_or (lines_by m r) k (Line.refusal 0) ≡ get_or (lines_by m r) (suc (suc (k - 2))) (Line.refusal 0) = ap (λ (y : ℕ). get_or (lines_by m r) y (Line.refusal 0)) e in
-                record { is = g.is ∙ sym (t ∙ ap (λ (l : List Line). get_or l (suc (suc (k - 2))) (Line.refusal 0)) (summary_lines z m recovered_then)) }
+  module _ (z : k ≡ 0 → ⊥) (h : k < 2 + many_set l) where
+    pub recovery_none : l ≡ None → GivesLineOf (summary_told m log l) k (printed.ValvesSet 0)
+    unfolding summary_told lines_told settings_in many_set
+    recovery_none e =
+        let a = many_none l e in
+        let o : k ≡ 1 = omega arith in
+        record { is = rw (o, e) refl }
+
+    module _ (s : State) (e : l ≡ Some s) where
+      pub recovery_set : k ≡ 1 → GivesLineOf (summary_told m log l) k (printed.ValvesSet s.index.count)
+      unfolding summary_told lines_told
+      recovery_set o = record { is = ap Line.valves_set (many_some l s e ∙ sym (many_are m l)) ∙ ap (λ (i : ℕ). get_or (summary_told m log l) i (Line.refusal 0)) (sym o) }
+
+      module _ (o : k ≡ 1 → ⊥) where
+        pub recovery_place : k - 2 < s.index.count
+        recovery_place = let a = many_some l s e in omega arith
+
+        pub recovery_few : many_set l ≤ 192 → s.index.count ≤ 192
+        recovery_few f = let a = many_some l s e in omega arith
+
+        pub recovery_setting : (x : PrintedLine) → GivesSetting (words (views m) (listed s.index)) (k - 2) x → GivesLineOf (summary_told m log l) k x
+        unfolding summary_told lines_told settings_in
+        recovery_setting x g =
+            let t : suc (suc (k - 2)) ≡ k = omega arith in
+            let u : words (views m) (listed s.index) ≡ settings_in m l = ap (settings_in m) (sym e) in
+            record {
+              is =
+                  g.is ∙ ap (λ (S : List Setting). get_or (setting_lines S) (k - 2) (Line.refusal 0)) u
+                  ∙ ap (λ (i : ℕ). get_or (summary_told m log l) i (Line.refusal 0)) t;
+            }

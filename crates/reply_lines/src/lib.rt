@@ -1,63 +1,54 @@
 // The lines that are printed of a reply to a recorded call.
 #![tactic(auto)]
 
-ghost use Rattle.std.specs.Prelude.{◌≡◌, ◌≤◌, ◌<◌};
+ghost use Rattle.std.specs.Prelude.{◌≡◌, ◌+◌, ◌≤◌, ◌<◌};
 ghost use Rattle.lists.specs.Lists.{value_or};
 ghost use Rattle.lists.specs.Cells.{listed};
 ghost use Rattle.flash.specs.Medium.{views};
 ghost use Rattle.nodes.specs.Nodes.{word_at, words};
 ghost use Rattle.player.specs.Played.{FewSet};
-ghost use Rattle.reply_lines.specs.Printed.{CountsLines, GivesLine, GivesSetting};
+ghost use Rattle.reply_lines.specs.Printed.{many_set, summary_told, CountsLines, GivesLineOf, GivesLine, GivesSetting};
 
-use lists::{Cell, Cells, Found};
-use player::Reply;
+use lists::{Cell, Cells};
+use player::{Reply, Told};
+use state::State;
 
-// A line to print: by its kind a refusal's number, the log's length, the number of valves set, or a valve and its word.
+// A line to print: a refusal's number, the log's length, the number of valves set, or a valve and its word.
 #[derive(Clone, Copy)]
-pub struct PrintedLine {
-    pub kind: u8,
-    pub first: u64,
-    pub second: u64,
+pub enum PrintedLine {
+    Refusal(u8),
+    LogLength(u64),
+    ValvesSet(u64),
+    Setting { valve: u16, word: u64 },
 }
 
-// Kinds of lines; any other kind is a valve and its word. Here a refusal.
-pub const REFUSAL: u8 = 0;
-
-// The log's length.
-pub const LOG_LENGTH: u8 = 1;
-
-// The number of valves set.
-pub const VALVES_SET: u8 = 2;
-
-// A valve and its word.
-pub const SETTING: u8 = 3;
+// How many valves are set in a state, and 0 where it is lost.
+fn valves_set(last: Option<State>) -> usize
+    ensures { result ≡ many_set last }
+{
+    let Some(s) = last else {
+        return 0;
+    };
+    s.index.count
+}
 
 // How many lines are printed of a reply.
 pub fn line_count(r: Reply) -> usize
     requires { FewSet r }
     ensures { CountsLines result r }
 {
-    if r.number != 0 {
-        return 1;
+    match r.told {
+        Told::Nothing => 0,
+        Told::Refused(_) => 1,
+        Told::Recovered(_) => 2 + valves_set(r.last),
     }
-    if !r.recovered {
-        return 0;
-    }
-    let last = r.last;
-    let s = last.state;
-    let c = s.index;
-    2 + c.count
 }
 
 // The word of a valve at the address of a place of the index, 0 where there is none.
 fn word(m: &[u8], place: Cell) -> u64
     ensures { result ≡ value_or 0 (word_at (views m.now) place) }
 {
-    let found = nodes::word_at(m, place);
-    let Found::At(word) = found else {
-        return 0;
-    };
-    word
+    nodes::word_at(m, place).unwrap_or(0)
 }
 
 // The line of the valve at place i of an index.
@@ -70,43 +61,42 @@ fn setting(m: &[u8], c: Cells, i: usize) -> PrintedLine
         val: c.vals[i],
     };
     let word = word(m, place);
-    PrintedLine {
-        kind: SETTING,
-        first: place.key as u64,
-        second: word,
+    PrintedLine::Setting {
+        valve: place.key,
+        word,
     }
 }
 
-// A line with one number.
-fn counted(kind: u8, n: u64) -> PrintedLine
-    ensures { result ≡ record { kind = kind; first = n; second = 0 } }
+// Line k of a recovery with a log of this length, which left this state, where m is the medium.
+fn recovery_line(m: &[u8], log: usize, last: Option<State>, k: usize) -> PrintedLine
+    requires { (many_set last ≤ 192) × (k < 2 + many_set last) }
+    ensures { GivesLineOf (summary_told m.now log last) k result }
 {
-    PrintedLine {
-        kind: kind,
-        first: n,
-        second: 0,
+    if k == 0 {
+        return PrintedLine::LogLength(log as u64);
     }
+    let Some(s) = last else {
+        return PrintedLine::ValvesSet(0);
+    };
+    let c = s.index;
+    if k == 1 {
+        return PrintedLine::ValvesSet(c.count as u64);
+    }
+    setting(m, c, k - 2)
 }
 
 // Line k of a reply, where m is the medium that was left; past the last one a line that means nothing.
+// Kept: a line past the last, since no caller asks for one, and an Option would have each of them take it apart.
 pub fn line(m: &[u8], r: Reply, k: usize) -> PrintedLine
     requires { FewSet r }
     ensures { GivesLine m.now r k result }
 {
     if line_count(r) <= k {
-        return counted(REFUSAL, 0);
+        return PrintedLine::Refusal(0);
     }
-    if r.number != 0 {
-        return counted(REFUSAL, r.number as u64);
+    match r.told {
+        Told::Nothing => PrintedLine::Refusal(0),
+        Told::Refused(number) => PrintedLine::Refusal(number),
+        Told::Recovered(log) => recovery_line(m, log, r.last, k),
     }
-    if k == 0 {
-        return counted(LOG_LENGTH, r.log as u64);
-    }
-    let last = r.last;
-    let s = last.state;
-    let c = s.index;
-    if k == 1 {
-        return counted(VALVES_SET, c.count as u64);
-    }
-    setting(m, c, k - 2)
 }

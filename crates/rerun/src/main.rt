@@ -3,7 +3,7 @@
 // there are more. Where reading or writing fails that is told on standard error, and after a failed read nothing is printed.
 #![tactic(auto)]
 
-ghost use Rattle.std.specs.Prelude.{not, ◌≡◌, ◌<◌, length};
+ghost use Rattle.std.specs.Prelude.{◌≡◌, ◌<◌, is_some, length};
 ghost use Rattle.streams.specs.Streams.{Gave};
 ghost use Rattle.text.specs.Parts.{PartAt, PrintsAll};
 ghost use Rattle.page.specs.Buffer.{buffer_bytes};
@@ -11,7 +11,7 @@ ghost use Rattle.run_text.specs.RunText.{run_text};
 
 use std::io;
 use std::io::Write;
-use text::Printed;
+use text::Text;
 
 // Bytes of the text of a trace on standard output, of which those before this place were written; whether they were written.
 fn write_part<W: Write>(
@@ -27,35 +27,31 @@ fn write_part<W: Write>(
     streams::write(output, errors, part)
 }
 
-// The text of a trace, window after window: the trace is played from its start for each, on a medium and with a buffer that are lent for
-// that.
+// The text of a trace, part after part, and how many bytes it has; none where a write failed. The trace is played from its start for each
+// part, on a medium and with a buffer that are lent for that.
+// Kept: one loop for `pages` and `rerun` would take a closure over the medium and the buffer, with clauses on both: no plainer.
 fn print<W: Write>(
     output: &mut W,
     errors: &impl Eprint,
     t: &[u8],
     m: &mut [u8],
     b: &mut [u8],
-    out: &mut [u8],
-) -> Printed
-    requires { (length m.old ≡ 65536) × (length b.old ≡ buffer_bytes) × (0 < length out.old) }
+    out: &mut Text<'_>,
+) -> Option<usize>
+    requires { (length m.old ≡ 65536) × (length b.old ≡ buffer_bytes) × (0 < out.old.room) }
     ensures all { PrintsAll (run_text t.now) result }
-    ensures gave { Gave (W.contents output.old) (W.contents output.new) (run_text t.now) (not result.failed) }
+    ensures gave { Gave (W.contents output.old) (W.contents output.new) (run_text t.now) (is_some result) }
 {
     let mut from: usize = 0;
     loop {
-        let k = run_text::window(t, from, m, b, out);
-        if !write_part(output, errors, t, from, &out[..k]) {
-            return Printed {
-                failed: true,
-                count: from,
-            };
+        run_text::window(t, from, m, b, out);
+        let part = out.as_bytes();
+        if !write_part(output, errors, t, from, part) {
+            return None;
         }
-        from += k;
-        if k < out.len() {
-            return Printed {
-                failed: false,
-                count: from,
-            };
+        from += part.len();
+        if !out.is_full() {
+            return Some(from);
         }
     }
 }
@@ -86,15 +82,20 @@ fn rerun(rt: &(impl Print + Eprint), t: &[u8]) {
     let mut m = medium_room();
     let mut b = [0u8; 256];
     let mut out = text_room();
-    print(&mut io::writer(rt), rt, t, &mut m, &mut b, &mut out);
+    print(
+        &mut io::writer(rt),
+        rt,
+        t,
+        &mut m,
+        &mut b,
+        &mut Text::new(&mut out),
+    );
 }
 
 fn main(rt: HostRuntime) {
     let mut t = input_room();
-    let r = streams::read(&mut rt.stdin(), &rt, &mut t);
-    if r.failed {
+    let Some(n) = streams::read(&mut rt.stdin(), &rt, &mut t) else {
         return;
-    }
-    let n = r.count;
+    };
     rerun(&rt, &t[..n]);
 }

@@ -7,71 +7,59 @@ use native.Mathlib.Omega.{arith}
 use native.Mathlib.Numerals.{add-one}
 use mir.Val.{Fits}
 use mir.Syntax.{w64}
-use lib.ListN.{length, take, drop, get_or, length-append}
+use lib.ListN.{length, take, drop, length-append}
 use lib.Seq.{drop-cons, length-take-le, take_all, take-suc}
-use lib.Dec.{eqb}
-use borrow.Author.Tests.{not-true, not-false, eq-eqb, ne_eqb}
-use Rattle.lists.specs.Cells.{Setting, listed}
-use Rattle.lists.proofs.Laws.{by_cases, length_table, get_table, length_pairs}
-use Rattle.text.specs.declared.WindowState.{WindowState}
-use Rattle.text.specs.Text.{ascii, decimal, Puts, Holds}
-use Rattle.text.specs.Window.{window, window_from, Shows}
+use borrow.Author.Tests.{not-true, not-false, eqb-true}
+use Rattle.lists.specs.Cells.{Setting}
+use Rattle.lists.proofs.Laws.{length_table, get_table}
+use Rattle.std.specs.Prelude.{◌==◌}
+use Rattle.text.specs.Filled.{Filled, starting}
+use Rattle.text.specs.Text.{Puts}
+use Rattle.text.specs.Window.{window}
 use Rattle.text.specs.Parts.{most_printed, Sees}
-use Rattle.text.proofs.Laws.{puts_all}
-use Rattle.text.proofs.Window.{shows_none, shows_then, shows_window, shows_full, length_window}
-use Rattle.text.proofs.Parts.{sees_shown}
+use Rattle.text.proofs.Laws.{puts_none, puts_then}
+use Rattle.text.proofs.Seen.{puts_window, puts_full, length_window}
+use Rattle.text.proofs.Parts.{sees_put}
 use Rattle.codec.proofs.Put.{length_blank}
 use Rattle.page.specs.Buffer.{buffer_bytes}
-use Rattle.flash.specs.Medium.{views}
-use Rattle.nodes.specs.Nodes.{words}
-use Rattle.nodes.proofs.Alive.{words_length}
 use Rattle.listing.specs.Listing.{refusal_line, log_line, set_line, setting_line}
 use Rattle.listing.proofs.Whole.{few_refusal, few_log, few_set, few_setting}
-use Rattle.trace.specs.Trace.{Recorded, call_count, code_at, number_at, data_size, data_start, well_formed, recorded_at, recorded}
+use Rattle.trace.specs.Trace.{Recorded, call_count, code_at, number_at, data_size, well_formed, recorded_at, recorded}
 use Rattle.trace.specs.Read.{Listed, HasCall}
-use Rattle.trace.proofs.Laws.{Summed, sum_start, start_next}
+use Rattle.trace.proofs.Laws.{sum_start, start_next}
 use Rattle.trace.proofs.Form.{formed_lists, formed_call, blocks_high}
-use Rattle.valve_log.specs.Reached.{World, world, fresh}
 use Rattle.player.specs.declared.Reply.{Reply}
-use Rattle.player.specs.declared.LastState.{LastState}
+use Rattle.player.specs.declared.Told.{Told}
+use Rattle.player.specs.declared.Told.TheVariants.{Nothing, Refused, Recovered}
 use Rattle.player.specs.Lines.{Line, setting_lines}
 use Rattle.player.specs.Run.{played, start_world, lines_from, lines_of}
-use Rattle.player.specs.Played.{held_by, world_by, settings_by, lines_by, FewSet, Plays, Starts, Playable, PlaysAt}
+use Rattle.player.specs.Played.{LastState, held_by, world_by, settings_in, lines_told, lines_by, FewSet, Starts, Playable, PlaysAt}
 use Rattle.reply_lines.specs.declared.PrintedLine.{PrintedLine}
+use Rattle.reply_lines.specs.declared.PrintedLine.TheVariants as printed
+use Rattle.reply_lines.proofs.Laws.{many_are, few_many}
 use Rattle.reply_lines.specs.Printed.{line_of, CountsLines, GivesLine}
 use Rattle.run_text.specs.declared.Run.{Run}
 use Rattle.run_text.specs.RunText.{line_text, lines_text, run_text}
-use Rattle.run_text.specs.Running.{most_line, most_of_call, left_in, Stands, Standing, StartsRun, Ready, Turns}
+use Rattle.run_text.specs.Running.{most_of_call, left_in, Stands, Standing, StartsRun, Ready, Turns}
 
 -- ---- one line
 
-module _ {out : List ℕ} {out' : List ℕ} {r : ℕ} (l : PrintedLine) (room : most_line ≤ length out) where
-  pub line_refusal : l.kind ≡ 0 → Puts out 0 (ascii "refused " ++ decimal l.first ++ ascii "\n") out' r → Holds out' r (line_text (line_of l))
-  unfolding line_text line_of refusal_line
-  line_refusal e p = let f = few_refusal l.first in rw (eq-eqb l.kind 0 e) (puts_all (omega arith) p)
+module _ {t u : Filled} (l : PrintedLine) where
+  pub line_refusal : (n : ℕ) → l ≡ printed.Refusal n → Puts t (refusal_line n) u → Puts t (line_text (line_of l)) u
+  unfolding line_text
+  line_refusal n e p = rw e p
 
-  module _ (a : l.kind ≡ 0 → ⊥) where
-    pub line_log : l.kind ≡ 1 → Puts out 0 (log_line l.first) out' r → Holds out' r (line_text (line_of l))
-    unfolding line_text line_of
-    line_log e p = let f = few_log l.first in rw (ne_eqb l.kind 0 a, eq-eqb l.kind 1 e) (puts_all (omega arith) p)
+  pub line_log : (n : ℕ) → l ≡ printed.LogLength n → Puts t (log_line n) u → Puts t (line_text (line_of l)) u
+  unfolding line_text
+  line_log n e p = rw e p
 
-    module _ (b : l.kind ≡ 1 → ⊥) where
-      pub line_set : l.kind ≡ 2 → Puts out 0 (set_line l.first) out' r → Holds out' r (line_text (line_of l))
-      unfolding line_text line_of
-      line_set e p =
-          let f = few_set l.first in
-          rw (ne_eqb l.kind 0 a, ne_eqb l.kind 1 b, eq-eqb l.kind 2 e) (puts_all (omega arith) p)
+  pub line_set : (n : ℕ) → l ≡ printed.ValvesSet n → Puts t (set_line n) u → Puts t (line_text (line_of l)) u
+  unfolding line_text
+  line_set n e p = rw e p
 
-      pub line_setting : (l.kind ≡ 2 → ⊥) → Puts out 0 (setting_line l.first l.second) out' r → Holds out' r (line_text (line_of l))
-      unfolding line_text line_of
-      line_setting c p =
-          let f = few_setting l.first l.second in
-          rw (ne_eqb l.kind 0 a, ne_eqb l.kind 1 b, ne_eqb l.kind 2 c) (puts_all (omega arith) p)
-
--- a text held at the front of a list, and that part handed to a window
-pub shows_held : {part : List ℕ} {n : ℕ} {text out : List ℕ} {w : WindowState} {out' : List ℕ} {w' : WindowState}
-    → Holds part n text → Shows out w (take n part) out' w' → Shows out w text out' w'
-shows_held h s = rw h.is at s
+  pub line_setting : (k w x : ℕ) → l ≡ printed.Setting k w → x ≡ k → Puts t (setting_line x w) u → Puts t (line_text (line_of l)) u
+  unfolding line_text
+  line_setting k w x e q p = rw e (rw q at p)
 
 -- ---- the lines of a reply
 
@@ -92,55 +80,45 @@ few_lines [] = omega arith
 few_lines (x ∷ l) =
     omega (arith, few_lines l, few_setting x.key x.val, length-append (setting_line x.key x.val) (lines_text (setting_lines l)))
 
-few_reply : (m : List ℕ) (r : Reply) → FewSet r → length (lines_text (lines_by m r)) ≤ most_of_call
-unfolding lines_text line_text lines_by settings_by
-few_reply m r f =
-    by_cases (eqb r.number 0)
-    (λ p. rw p
-    (by_cases r.recovered
-    (λ q. rw q
-    (let S : List Setting = words (views m) (listed r.last.state.index) in
-    let i = f.most q in
-    let n = words_length (views m) (listed r.last.state.index) in
-    let k = length_pairs r.last.state.index.count r.last.state.index.keys r.last.state.index.vals in
+few_told : (t : Told) (S : List Setting) → ((log : ℕ) → t ≡ Recovered log → length S ≤ 192) → length (lines_text (lines_told t S)) ≤ most_of_call
+unfolding lines_text line_text lines_told
+few_told Nothing S h = omega arith
+few_told (Refused n) S h = omega (arith, length-append (refusal_line n) [], few_refusal n)
+few_told (Recovered log) S h =
+    let i = h log refl in
     let z = length-append (set_line (length S)) (lines_text (setting_lines S)) in
-    let y = length-append (log_line r.log) (set_line (length S) ++ lines_text (setting_lines S)) in
-    omega (arith, i, n, k, z, y, few_log r.log, few_set (length S), few_lines S)))
-    (λ q. rw q (omega arith))))
-    (λ p. rw p (omega (arith, length-append (refusal_line r.number) [], few_refusal r.number)))
+    let y = length-append (log_line log) (set_line (length S) ++ lines_text (setting_lines S)) in
+    omega (arith, i, z, y, few_log log, few_set (length S), few_lines S)
 
--- k lines were handed to the window
-pub record Replying (m : List ℕ) (r : Reply) (n : ℕ) (out₀ : List ℕ) (w₀ : WindowState) (out : List ℕ) (w : WindowState) (k : ℕ) : Type 0 where
-  pub far : k ≤ n
-  pub so : Shows out₀ w₀ (lines_text (take k (lines_by m r))) out w
+few_reply : (m : List ℕ) (r : Reply) → FewSet r → length (lines_text (lines_by m r)) ≤ most_of_call
+few_reply m r f = few_told r.told (settings_in m r.last) (λ log e. let a = many_are m r.last in let b = few_many r log e f in omega arith)
 
-pub replying_start : (m : List ℕ) (r : Reply) (n : ℕ) (out : List ℕ) (w : WindowState) → Replying m r n out w out w 0
+-- k lines were put behind what was there
+abbrev pub Replying : List ℕ → Reply → Filled → Filled → ℕ → Type 0
+Replying m r t u k = Puts t (lines_text (take k (lines_by m r))) u
+
+pub replying_start : (m : List ℕ) (r : Reply) (t : Filled) → Replying m r t t 0
 unfolding lines_text
-replying_start m r n out w = record { far = omega arith; so = shows_none out w }
+replying_start m r t = puts_none
 
-module _ (m : List ℕ) (r : Reply) (n : ℕ) (out₀ : List ℕ) (w₀ : WindowState) (out : List ℕ) (w : WindowState) (k : ℕ) (s : Replying m r n out₀ w₀ out w k) where
-  pub replying_long : length out ≡ length out₀
-  replying_long = s.so.long
+module _ (m : List ℕ) (r : Reply) (n : ℕ) (c : CountsLines n r) (t u : Filled) (k : ℕ) (s : Replying m r t u k) where
+  pub replying_next : k < n → (l : PrintedLine) → GivesLine m r k l → (v : Filled) → Puts u (line_text (line_of l)) v → Replying m r t v (k + 1)
+  replying_next h l g v p =
+      let z : k + 1 ≡ suc k = add-one k in
+      let e : take (k + 1) (lines_by m r) ≡ take k (lines_by m r) ++ (line_of l ∷ []) =
+      ap (λ (j : ℕ). take j (lines_by m r)) z
+      ∙ take-suc (lines_by m r) k (Line.refusal 0) (omega (arith, c.is m))
+      ∙ ap (λ (x : Line). take k (lines_by m r) ++ (x ∷ [])) (sym g.is) in
+      let f : lines_text (take (k + 1) (lines_by m r)) ≡ lines_text (take k (lines_by m r)) ++ line_text (line_of l) =
+      ap lines_text e
+      ∙ lines_append (take k (lines_by m r)) (line_of l ∷ [])
+      ∙ ap (λ (x : List ℕ). lines_text (take k (lines_by m r)) ++ x) (lines_one (line_of l)) in
+      rw f (puts_then s p)
 
-  module _ (c : CountsLines n r) where
-    pub replying_next : k < n → (l : PrintedLine) → GivesLine m r k l → (out' : List ℕ) (w' : WindowState) → Shows out w (line_text (line_of l)) out' w'
-        → Replying m r n out₀ w₀ out' w' (k + 1)
-    replying_next h l g out' w' p =
-        let z : k + 1 ≡ suc k = add-one k in
-        let e : take (k + 1) (lines_by m r) ≡ take k (lines_by m r) ++ (line_of l ∷ []) =
-        ap (λ (j : ℕ). take j (lines_by m r)) z
-        ∙ take-suc (lines_by m r) k (Line.refusal 0) (omega (arith, c.is m))
-        ∙ ap (λ (x : Line). take k (lines_by m r) ++ (x ∷ [])) (sym g.is) in
-        let f : lines_text (take (k + 1) (lines_by m r)) ≡ lines_text (take k (lines_by m r)) ++ line_text (line_of l) =
-        ap lines_text e
-        ∙ lines_append (take k (lines_by m r)) (line_of l ∷ [])
-        ∙ ap (λ (x : List ℕ). lines_text (take k (lines_by m r)) ++ x) (lines_one (line_of l)) in
-        record { far = omega arith; so = rw f (shows_then s.so p) }
-
-    pub replying_end : n ≤ k → Shows out₀ w₀ (lines_text (lines_by m r)) out w
-    replying_end h =
-        let z : length (lines_by m r) ≤ k = omega (arith, c.is m) in
-        rw (take_all k (lines_by m r) z) at s.so
+  pub replying_end : n ≤ k → Puts t (lines_text (lines_by m r)) u
+  replying_end h =
+      let z : length (lines_by m r) ≤ k = omega (arith, c.is m) in
+      rw (take_all k (lines_by m r) z) at s
 
 -- ---- one call
 
@@ -190,11 +168,11 @@ module _ (t : List ℕ) (x : Run) (m b : List ℕ) (y : Ready t x m b) where
     pub turn_place : Fits w64 (x.at + n)
     turn_place = let l = formed_lists t turn_stands.formed in omega (arith, l.long, turn_stands.start, turn_has.bytes)
 
-    pub turn_is : (out : List ℕ) (r : Reply) (m' b' out' : List ℕ) (w : WindowState) (x' : Run) → PlaysAt t x.call m x.last b r m' b'
-        → Shows out x.window (lines_text (lines_by m' r)) out' w
-        → x' ≡ record { window = w; left = cond r.ends 0 (x.left - 1); call = x.call + 1; at = x.at + n; last = r.last }
+    pub turn_is : (out : Filled) (r : Reply) (m' b' : List ℕ) (out' : Filled) (x' : Run) → PlaysAt t x.call m x.last b r m' b'
+        → Puts out (lines_text (lines_by m' r)) out'
+        → x' ≡ record { left = cond r.ends 0 (x.left - 1); call = x.call + 1; at = x.at + n; last = r.last }
         → Turns t x m b out x' m' b' out'
-    turn_is out r m' b' out' w x' p h q =
+    turn_is out r m' b' out' x' p h q =
         rw q
         (record {
           fewer = few r.ends;
@@ -203,7 +181,7 @@ module _ (t : List ℕ) (x : Run) (m b : List ℕ) (y : Ready t x m b) where
           piece = lines_text (lines_by m' r);
           short = few_reply m' r p.few;
           so = left_on t x.call x.left x.last m b turn_call y.on r m' b' p;
-          shows = h;
+          puts = h;
         })
       where
         few : (c : Bool) → cond c 0 (x.left - 1) < x.left
@@ -219,9 +197,9 @@ module _ (t : List ℕ) (x : Run) (m b : List ℕ) (y : Ready t x m b) where
             record { formed = turn_stands.formed; calls = omega arith; start = omega arith }
 
 -- the run after a call
-module _ (r : Reply) (w : WindowState) (k i at : ℕ) where
+module _ (r : Reply) (k i at : ℕ) where
   abbrev after : ℕ → Run
-  after left = record { window = w; left = left; call = i; at = at; last = r.last }
+  after left = record { left = left; call = i; at = at; last = r.last }
 
   pub moved_ends : r.ends ≡ true → after 0 ≡ after (cond r.ends 0 k)
   moved_ends e = ap after (rw e)
@@ -242,16 +220,15 @@ module _ (t m b : List ℕ) (w : well_formed t ≡ true) where
     pub first_place_lem : Fits w64 (8 + 16 * n)
     first_place_lem = let l = first_listed in omega (arith, l.long, l.room)
 
-    pub first_is : length m ≡ 4096 * number_at t 0 → (from : ℕ) (l : LastState) (m' b' : List ℕ) → Starts m l m' b'
-        → StartsRun t from (record { window = record { skip = from; filled = 0 }; left = n; call = 0; at = 8 + 16 * n; last = l }) m' b'
+    pub first_is : length m ≡ 4096 * number_at t 0 → (l : LastState) (m' b' : List ℕ) → Starts m l m' b'
+        → StartsRun t (record { left = n; call = 0; at = 8 + 16 * n; last = l }) m' b'
     unfolding run_text lines_of left_in world_by held_by start_world recorded
-    first_is z from l m' b' s =
+    first_is z l m' b' s =
         let c : take n (recorded t) ≡ recorded t = take_all n (recorded t) (omega (arith, length_table (recorded_at t) Recorded.commit (call_count t))) in
         let d = sum_start t n q first_listed in
         record {
           stands = record { on = λ o. record { formed = w; calls = omega arith; start = d.so } };
           first = refl;
-          window = refl;
           small = let k = blocks_high t w in omega (arith, ap length s.medium, length_blank (length m));
           lent = ap length s.buffer ∙ length_blank 256;
           so = rw (w, c, s.medium, z, s.stateless, s.buffer);
@@ -259,7 +236,7 @@ module _ (t m b : List ℕ) (w : well_formed t ≡ true) where
 
 -- ---- the loop over the calls: what was told, and what is left
 
-pub record Running (t : List ℕ) (from : ℕ) (m₀ b₀ out₀ : List ℕ) (x : Run) (m b out : List ℕ) : Type 0 where
+pub record Running (t : List ℕ) (from : ℕ) (m₀ b₀ : List ℕ) (old : Filled) (x : Run) (m b : List ℕ) (u : Filled) : Type 0 where
   pub stands : Standing t x
   pub medium : length m ≡ length m₀
   pub buffer : length b ≡ length b₀
@@ -269,10 +246,11 @@ pub record Running (t : List ℕ) (from : ℕ) (m₀ b₀ out₀ : List ℕ) (x 
   pub told : List ℕ
   pub short : length told ≤ most_of_call * x.call
   pub so : run_text t ≡ told ++ left_in t x.call x.left x.last m b
-  pub shows : Shows out₀ (window_from from) told out x.window
+  pub puts : Puts (starting old.room from) told u
 
-pub running_start : (t : List ℕ) (from : ℕ) (out : List ℕ) (x : Run) (m b : List ℕ) → StartsRun t from x m b → Running t from m b out x m b out
-running_start t from out x m b s =
+pub running_start : (t : List ℕ) (from : ℕ) (old u : Filled) (x : Run) (m b : List ℕ) → u ≡ starting old.room from → StartsRun t x m b
+    → Running t from m b old x m b u
+running_start t from old u x m b e s =
     record {
       stands = s.stands;
       medium = refl;
@@ -283,72 +261,67 @@ running_start t from out x m b s =
       told = [];
       short = omega arith;
       so = s.so;
-      shows = rw s.window (shows_none out (window_from from));
+      puts = rw e puts_none;
     }
 
-module _ (t : List ℕ) (from : ℕ) (m₀ b₀ out₀ : List ℕ) (x : Run) (m b out : List ℕ) (R : Running t from m₀ b₀ out₀ x m b out) where
+module _ (t : List ℕ) (from : ℕ) (m₀ b₀ : List ℕ) (old : Filled) (x : Run) (m b : List ℕ) (u : Filled) (R : Running t from m₀ b₀ old x m b u) where
   pub running_medium : length m ≡ length m₀
   running_medium = R.medium
 
   pub running_buffer : length b ≡ length b₀
   running_buffer = R.buffer
 
-  pub running_long : length out ≡ length out₀
-  running_long = R.shows.long
-
-  pub running_next : (o : x.left ≡ 0 → ⊥) (x' : Run) (m' b' out' : List ℕ) → length m' ≡ length m → length b' ≡ length b
-      → Turns t x m b out x' m' b' out' → Running t from m₀ b₀ out₀ x' m' b' out'
-  running_next o x' m' b' out' lm lb u =
+  pub running_next : (o : x.left ≡ 0 → ⊥) (x' : Run) (m' b' : List ℕ) (v : Filled) → length m' ≡ length m → length b' ≡ length b
+      → Turns t x m b u x' m' b' v → Running t from m₀ b₀ old x' m' b' v
+  running_next o x' m' b' v lm lb w =
       let h : 0 < x.left = omega arith in
       let s = (R.stands.on h).calls in
-      let n = u.next in
+      let n = w.next in
       let i = R.short in
-      let j = u.short in
+      let j = w.short in
       record {
-        stands = u.stands;
+        stands = w.stands;
         medium = lm ∙ R.medium;
         buffer = lb ∙ R.buffer;
         small = let k = R.small in omega arith;
         lent = lb ∙ R.lent;
         far = omega arith;
-        told = R.told ++ u.piece;
-        short = omega (arith, length-append R.told u.piece);
+        told = R.told ++ w.piece;
+        short = omega (arith, length-append R.told w.piece);
         so =
             R.so
-            ∙ ap (λ (l : List ℕ). R.told ++ l) u.so
-            ∙ sym (append_assoc R.told u.piece (left_in t x'.call x'.left x'.last m' b'));
-        shows = shows_then R.shows u.shows;
+            ∙ ap (λ (l : List ℕ). R.told ++ l) w.so
+            ∙ sym (append_assoc R.told w.piece (left_in t x'.call x'.left x'.last m' b'));
+        puts = puts_then R.puts w.puts;
       }
 
   pub running_ready : (x.left ≡ 0 → ⊥) → Ready t x m b
   running_ready o = record { on = omega arith; stands = R.stands; small = R.small; lent = R.lent }
 
   module _ (w : well_formed t ≡ true) where
-    -- no window reaches past what was told
-    told_low : from + x.window.filled ≤ max from most_printed
+    -- no part reaches past what was told
+    told_low : from + length u.text ≤ max from most_printed
     told_low =
-        let h = shows_window R.shows in
         let l = formed_lists t w in
         let f = R.far in
         let s = R.short in
-        let p = h.part in
-        omega (arith, l.long, l.room, ap length h.is, length_window from (length out₀) R.told)
+        omega (arith, l.long, l.room, ap length (puts_window R.puts), length_window from old.room R.told)
 
-    pub running_end : x.left ≡ 0 → Sees (run_text t) from out x.window.filled
+    seen : u.text ≡ window from old.room (run_text t) → Sees (run_text t) from old u
+    seen h = record { room = R.puts.room; is = h ∙ ap (λ (k : ℕ). window from k (run_text t)) (sym R.puts.room); low = told_low }
+
+    pub running_end : x.left ≡ 0 → Sees (run_text t) from old u
     unfolding left_in lines_from lines_text
     running_end e =
         let z : left_in t x.call x.left x.last m b ≡ [] = rw e in
         let y : run_text t ≡ R.told = R.so ∙ ap (λ (l : List ℕ). R.told ++ l) z ∙ append-nil R.told in
-        let h = shows_window R.shows in
-        let g : Holds out x.window.filled (window from (length out) (run_text t)) = rw (running_long, y) h in
-        record { holds = g; low = told_low }
+        seen (puts_window R.puts ∙ ap (window from old.room) (sym y))
 
-    pub running_full : length out ≤ x.window.filled → Sees (run_text t) from out x.window.filled
-    running_full f =
-        let k : length out₀ ≤ x.window.filled = omega (arith, running_long) in
-        let h = shows_full R.shows k (left_in t x.call x.left x.last m b) in
-        let g : Holds out x.window.filled (window from (length out) (run_text t)) = rw (running_long, R.so) h in
-        record { holds = g; low = told_low }
+    pub running_full : (full : Bool) → full ≡ (length u.text == u.room) → full ≡ true → Sees (run_text t) from old u
+    running_full full e f =
+        let i = eqb-true (length u.text) u.room (sym e ∙ f) in
+        let k : old.room ≤ length u.text = omega (arith, R.puts.room) in
+        seen (puts_full R.puts k (left_in t x.call x.left x.last m b) ∙ ap (window from old.room) (sym R.so))
 
 -- ---- the medium at the front of a lent list
 
@@ -371,17 +344,15 @@ module _ (t : List ℕ) (w : well_formed t ≡ true) where
 
 -- ---- the whole
 
-pub broken_is : (from : ℕ) (out out' : List ℕ) (x : WindowState) → Shows out (window_from from) (line_text (line_of (record { kind = 0; first = 26; second = 0 }))) out' x
-    → Sees (refusal_line 26) from out' x.filled
-unfolding line_text line_of
-broken_is from out out' x s =
+pub broken_is : (n from : ℕ) (old t u : Filled) → n ≡ 26 → t ≡ starting old.room from → Puts t (refusal_line n) u → Sees (refusal_line 26) from old u
+broken_is n from old t u e o p =
     let f : length (refusal_line 26) ≤ most_printed = omega (arith, few_refusal 26) in
-    sees_shown f s
+    sees_put refl f (rw (e, o) at p)
 
 module _ (t : List ℕ) (r : Bool) (e : r ≡ well_formed t) where
-  pub window_broken : not r ≡ true → (from : ℕ) (out : List ℕ) (n : ℕ) → Sees (refusal_line 26) from out n → Sees (run_text t) from out n
+  pub window_broken : not r ≡ true → (from : ℕ) (old u : Filled) → Sees (refusal_line 26) from old u → Sees (run_text t) from old u
   unfolding run_text lines_of lines_text line_text
-  window_broken h from out n s =
+  window_broken h from old u s =
       let z : well_formed t ≡ false = sym e ∙ not-true r h in
       let y : run_text t ≡ refusal_line 26 = rw z (append-nil (refusal_line 26)) in
       rw y s

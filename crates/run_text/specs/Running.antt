@@ -1,19 +1,15 @@
--- A run told call by call through a window: what is still to be told, and what is promised of each part.
+-- A run told call by call: what is still to be told, and what is promised of each part.
 use Rattle.std.specs.Prelude.{◌≡◌, true, List, ◌++◌, ℕ, ◌+◌, ◌≤◌, ◌<◌, length, take, drop}
 use Rattle.page.specs.Buffer.{buffer_bytes}
 use Rattle.trace.specs.Trace.{call_count, well_formed, recorded, data_start}
-use Rattle.player.specs.declared.LastState.{LastState}
 use Rattle.player.specs.Run.{lines_from}
-use Rattle.player.specs.Played.{world_by}
-use Rattle.text.specs.Window.{window_from, Shows}
+use Rattle.player.specs.Played.{LastState, world_by}
+use Rattle.text.specs.Filled.{Filled}
+use Rattle.text.specs.Text.{Puts}
 use Rattle.run_text.specs.declared.Run.{Run}
 use Rattle.run_text.specs.RunText.{lines_text, run_text}
 
--- so many bytes hold any line
-abbrev pub most_line : ℕ
-most_line = 64
-
--- so many hold the lines of one call: two of at most 25 bytes and 192 of at most 42
+-- so many bytes hold the lines of one call: two of at most 25 bytes and 192 of at most 42
 abbrev pub most_of_call : ℕ
 most_of_call = 8192
 
@@ -32,11 +28,10 @@ pub record Stands (t : List ℕ) (i k at : ℕ) : Type 0 where
 pub record Standing (t : List ℕ) (r : Run) : Type 0 where
   pub on : 0 < r.left → Stands t r.call r.left r.at
 
--- a run before its first call, whose window is to begin at this byte
-pub record StartsRun (t : List ℕ) (from : ℕ) (r : Run) (m b : List ℕ) : Type 0 where
+-- a run before its first call
+pub record StartsRun (t : List ℕ) (r : Run) (m b : List ℕ) : Type 0 where
   pub stands : Standing t r
   pub first : r.call ≡ 0
-  pub window : r.window ≡ window_from from
   pub small : length m ≤ 65536
   pub lent : length b ≡ buffer_bytes
   pub so : run_text t ≡ left_in t r.call r.left r.last m b
@@ -48,12 +43,12 @@ pub record Ready (t : List ℕ) (r : Run) (m b : List ℕ) : Type 0 where
   pub small : length m ≤ 65536
   pub lent : length b ≡ buffer_bytes
 
--- what it promises of a run r, which it leaves as r': of what is left to be told, the text of one call was handed to the window
-pub record Turns (t : List ℕ) (r : Run) (m b out : List ℕ) (r' : Run) (m' b' out' : List ℕ) : Type 0 where
+-- what it promises of a run r, which it leaves as r': of what is left to be told, the text of one call was put behind what is there
+pub record Turns (t : List ℕ) (r : Run) (m b : List ℕ) (out : Filled) (r' : Run) (m' b' : List ℕ) (out' : Filled) : Type 0 where
   pub fewer : r'.left < r.left
   pub next : r'.call ≡ r.call + 1
   pub stands : Standing t r'
   pub piece : List ℕ
   pub short : length piece ≤ most_of_call
   pub so : left_in t r.call r.left r.last m b ≡ piece ++ left_in t r'.call r'.left r'.last m' b'
-  pub shows : Shows out r.window piece out' r'.window
+  pub puts : Puts out piece out'

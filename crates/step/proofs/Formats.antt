@@ -1,7 +1,7 @@
 -- The steps of formatting: none is refused on a medium of allowed length.
 use mathlib.Core.Path.{◌≡◌, refl, ◌∙◌}
 use mathlib.Core.Bool.{Bool, true, false}
-use mathlib.Core.Option.{some}
+use Rattle.std.proofs.Common.{Some}
 use mathlib.Core.List.{List, []}
 use Prim.Native.Nat.{ℕ, suc, ◌/◌, ◌≤◌, ◌<◌}
 use native.Mathlib.Omega.{arith}
@@ -30,13 +30,13 @@ unfolding format_step formatting programming under serials_for is_clean
 writes v blocks r c = rw (le-ltb blocks blocks (omega arith), c)
 
 -- such a state is fit with any buffer that holds groups, or none
-formatting_fit_with : (v : List View) (blocks k : ℕ) (r : List Bool) (b : List ℕ) (gs : List (List Entry)) → blocks ≡ length v / 16 → 1 ≤ blocks → k ≤ blocks → gathered b ≡ some gs
+formatting_fit_with : (v : List View) (blocks k : ℕ) (r : List Bool) (b : List ℕ) (gs : List (List Entry)) → blocks ≡ length v / 16 → 1 ≤ blocks → k ≤ blocks → gathered b ≡ Some gs
     → fit_with v (format_state blocks k r) b ≡ true
 unfolding fit_with buffer_fit groups_fit every
 formatting_fit_with v blocks k r b gs e low few g = rw (formatting_fit v blocks k r e low few, g)
 
 module _ (n : ℕ) (v : List View) (blocks : ℕ) (r : List Bool) (b : List ℕ) (gs : List (List Entry)) (size : size_ok n ≡ true)
-    (e : blocks ≡ length v / 16) (low : 1 ≤ blocks) (g : gathered b ≡ some gs) where
+    (e : blocks ≡ length v / 16) (low : 1 ≤ blocks) (g : gathered b ≡ Some gs) where
   format_due : (k : ℕ) → k ≤ blocks → step_of n v (format_state blocks k r) b ≡ format_step v (format_state blocks k r) k
   unfolding step_of under due is_idle
   format_due k few = rw (size, formatting_fit_with v blocks k r b gs e low few g) (format_adds_none v (format_state blocks k r) (format_step v (format_state blocks k r) k) k refl)

@@ -2,7 +2,7 @@
 use mathlib.Core.Path.{◌≡◌, refl, sym, ap, subst, ◌∙◌}
 use mathlib.Core.Logic.{◌⊎◌, inl, inr}
 use mathlib.Core.Bool.{Bool, true, false}
-use mathlib.Core.Option.{none, some}
+use Rattle.std.proofs.Common.{None, Some}
 use mathlib.Core.List.{List, [], ◌∷◌}
 use Prim.Native.Nat.{ℕ, zero, suc, ◌+◌, ◌-◌, ◌*◌, ◌/◌, ◌≤◌, ◌<◌}
 use native.Mathlib.Omega.{arith}
@@ -67,7 +67,7 @@ data Within (m : List ℕ) : Answer Step → Type 0 where
 
 module _ (m : List ℕ) (s : Held) (b : List ℕ) (as_long : length m ≡ 256 * length (views m)) where
   abbrev w : World
-  w = world m (some s) b
+  w = world m (Some s) b
 
   abbrev j : Journal
   j = journal (views m) s b
@@ -115,7 +115,7 @@ module _ (m : List ℕ) (s : Held) (b : List ℕ) (as_long : length m ≡ 256 * 
 step_tells : (w : World) (j : Journal) → Tells w j → Within w.medium (Table.step_due j)
     → Tells (happen w Event.step).after (Table.stepped j (Table.step_due j))
 step_tells w j T i =
-    let p : w ≡ world w.medium (some j.state) j.buffer = rw (T.state, T.buffer) in
+    let p : w ≡ world w.medium (Some j.state) j.buffer = rw (T.state, T.buffer) in
     let q : j ≡ journal (views w.medium) j.state j.buffer = rw T.pages in
     let l : length w.medium ≡ 256 * length (views w.medium) = T.long ∙ ap (λ (v : List View). 256 * length v) (sym T.pages) in
     rw (p, q) (step_so w.medium j.state j.buffer l (rw q at i))
@@ -189,7 +189,7 @@ module _ (m : List ℕ) (p : ℕ) (pg : Page) (inside : 256 * p + 256 ≤ length
       }
 
 -- a step that keeps the invariant is one within the medium
-good_within : (m : List ℕ) (s : Held) (b : List ℕ) (h : History) → Upheld (world m (some s) b) h → (a : Answer Step)
+good_within : (m : List ℕ) (s : Held) (b : List ℕ) (h : History) → Upheld (world m (Some s) b) h → (a : Answer Step)
     → Good (views m) s b h a → Within m a
 unfolding Good
 good_within m s b h U (refused n) G = refuses n
@@ -198,9 +198,9 @@ good_within m s b h U (gives (Step.erase x s' finished)) G = erases x s' finishe
 
 -- ---- a world reached
 
-module _ (m : List ℕ) (s : Held) (b : List ℕ) (h : History) (R : Reached (world m (some s) b) h) where
-  upheld : Upheld (world m (some s) b) h
-  upheld = reached_upheld (world m (some s) b) h R
+module _ (m : List ℕ) (s : Held) (b : List ℕ) (h : History) (R : Reached (world m (Some s) b) h) where
+  upheld : Upheld (world m (Some s) b) h
+  upheld = reached_upheld (world m (Some s) b) h R
 
   as_long : length m ≡ 256 * length (views m)
   as_long = long_as m upheld.size
@@ -214,14 +214,14 @@ module _ (m : List ℕ) (s : Held) (b : List ℕ) (h : History) (R : Reached (wo
 
   torn_so : (p : ℕ) (pg : Page) (s' : Held) (finished : Bool)
       → Table.step_due (journal (views m) s b) ≡ gives (Step.program p pg s' finished)
-      → TornSo (world m (some s) b) (journal (views m) s b)
+      → TornSo (world m (Some s) b) (journal (views m) s b)
   torn_so p pg s' finished e =
       record {
         left = left;
         allowed = allowed;
         goes_on =
-            recover_so (happen (world m (some s) b) cuts).after (tell h (happen (world m (some s) b) cuts).told)
-            (Table.torn (journal (views m) s b)) (Reached.next (world m (some s) b) h cuts R)
+            recover_so (happen (world m (Some s) b) cuts).after (tell h (happen (world m (Some s) b) cuts).told)
+            (Table.torn (journal (views m) s b)) (Reached.next (world m (Some s) b) h cuts R)
             (ap (λ (x : World). views x.medium) after_is ∙ sees ∙ ap (λ (x : Journal). x.pages) (sym torn_is))
             (ap (λ (x : World). length x.medium) after_is
             ∙ long_with m left _ as_long sees (put_length m p (torn_page m p pg inside narrow) inside (torn_long m p pg inside narrow))
@@ -240,18 +240,18 @@ module _ (m : List ℕ) (s : Held) (b : List ℕ) (h : History) (R : Reached (wo
       left : List ℕ
       left = torn_medium m p pg inside narrow
 
-      due_is : step_due (world m (some s) b) ≡ gives (Step.program p pg s' finished)
+      due_is : step_due (world m (Some s) b) ≡ gives (Step.program p pg s' finished)
       due_is = unfold step_due with_state in (ap (λ (n : ℕ). step_of n (views m) s b) as_long ∙ e)
 
-      allowed : CutOf m (step_due (world m (some s) b)) left
+      allowed : CutOf m (step_due (world m (Some s) b)) left
       allowed = subst (λ (a : Answer Step). CutOf m a left) (sym due_is)
           (unfold CutOf in torn_allowed m p pg inside narrow upheld.guarded.bytes)
 
-      cuts : Event (world m (some s) b)
+      cuts : Event (world m (Some s) b)
       cuts = Event.cut_inside left allowed
 
-      after_is : (happen (world m (some s) b) cuts).after ≡ world left none (blank 256)
-      after_is = unfold happen in (ap (λ (a : Answer Step). (cut_short (world m (some s) b) left a).after) due_is ∙ (unfold cut_short in refl))
+      after_is : (happen (world m (Some s) b) cuts).after ≡ world left None (blank 256)
+      after_is = unfold happen in (ap (λ (a : Answer Step). (cut_short (world m (Some s) b) left a).after) due_is ∙ (unfold cut_short in refl))
 
       sees : views left ≡ set (views m) p (view_of (set (encode pg) 16 255))
       sees = put_views m p (torn_page m p pg inside narrow) inside (torn_long m p pg inside narrow)
@@ -259,13 +259,13 @@ module _ (m : List ℕ) (s : Held) (b : List ℕ) (h : History) (R : Reached (wo
       torn_is : Table.torn (journal (views m) s b) ≡ journal (set (views m) p (view_of (set (encode pg) 16 255))) s (blank 256)
       torn_is = ap (Table.torn_in (journal (views m) s b)) e
 
-  cut_between : Tells (happen (happen (world m (some s) b) Event.cut).after Event.recover).after (Table.resumed (journal (views m) s b))
+  cut_between : Tells (happen (happen (world m (Some s) b) Event.cut).after Event.recover).after (Table.resumed (journal (views m) s b))
   cut_between =
-      recover_so (happen (world m (some s) b) Event.cut).after (tell h (happen (world m (some s) b) Event.cut).told)
-      (journal (views m) s b) (Reached.next (world m (some s) b) h Event.cut R)
+      recover_so (happen (world m (Some s) b) Event.cut).after (tell h (happen (world m (Some s) b) Event.cut).told)
+      (journal (views m) s b) (Reached.next (world m (Some s) b) h Event.cut R)
       (unfold happen in refl) (unfold happen in as_long)
 
-  goes : GoesWith (world m (some s) b) (journal (views m) s b)
+  goes : GoesWith (world m (Some s) b) (journal (views m) s b)
   unfolding happen with_state
   goes =
       record {
@@ -281,25 +281,25 @@ module _ (m : List ℕ) (s : Held) (b : List ℕ) (h : History) (R : Reached (wo
 pub tied : Tied
 unfolding Tied
 tied w h j R T =
-    let p : w ≡ world w.medium (some j.state) j.buffer = rw (T.state, T.buffer) in
+    let p : w ≡ world w.medium (Some j.state) j.buffer = rw (T.state, T.buffer) in
     let q : j ≡ journal (views w.medium) j.state j.buffer = rw T.pages in
     rw (p, q) (goes w.medium j.state j.buffer h (rw p at R))
 
 -- ---- the program as it was before Paper 8
 
-went_with : (m : List ℕ) (s : Held) (b : List ℕ) (h : History) → Before (world m (some s) b) h
-    → WentWith (world m (some s) b) (journal (views m) s b)
+went_with : (m : List ℕ) (s : Held) (b : List ℕ) (h : History) → Before (world m (Some s) b) h
+    → WentWith (world m (Some s) b) (journal (views m) s b)
 unfolding happened with_state step_due_before
 went_with m s b h B =
     record {
       append = λ es narrow small. rw (← long) (called_so m s b long (began_append _) _);
       step = rw (← long) (stepped_so m s b long (step_before (length m) (views m) s b)
           (good_within m s b h U (step_before (length m) (views m) s b) (due_before m s b h U)));
-      taken_over_lem = recover_so (switched_off (world m (some s) b)) h (journal (views m) s b) (Reached.taken_over B) refl long;
+      taken_over_lem = recover_so (switched_off (world m (Some s) b)) h (journal (views m) s b) (Reached.taken_over B) refl long;
     }
   where
-    U : Upheld (world m (some s) b) h
-    U = before_upheld (world m (some s) b) h B
+    U : Upheld (world m (Some s) b) h
+    U = before_upheld (world m (Some s) b) h B
 
     long : length m ≡ 256 * length (views m)
     long = long_as m U.size
@@ -307,7 +307,7 @@ went_with m s b h B =
 tied_before : TiedBefore
 unfolding TiedBefore
 tied_before w h j B T =
-    let p : w ≡ world w.medium (some j.state) j.buffer = rw (T.state, T.buffer) in
+    let p : w ≡ world w.medium (Some j.state) j.buffer = rw (T.state, T.buffer) in
     let q : j ≡ journal (views w.medium) j.state j.buffer = rw T.pages in
     rw (p, q) (went_with w.medium j.state j.buffer h (rw p at B))
 
@@ -339,7 +339,7 @@ size_ok_lem = ap size_ok long ∙ (unfold size_ok every in refl)
 
 -- the world where formatting begins, and the table's journal of it
 abbrev pub unerased : World
-unerased = world unformatted (some (formatting 4)) (blank 256)
+unerased = world unformatted (Some (formatting 4)) (blank 256)
 
 abbrev begun_format : Journal
 begun_format = Table.called (journal (replicate 64 spoilt) (formatting 0) (blank 256)) (format_of 16384)
@@ -394,7 +394,7 @@ four_blocks = ap (λ (n : ℕ). n / 4096) long
 
 -- all blocks are erased
 erased_all_lem : erased_all unformatted (zero_bytes 16384) size_ok_lem ≡ steps_on 4 unerased
-erased_all_lem = ap (λ (n : ℕ). steps_on n (world unformatted (some (formatting n)) (blank 256))) four_blocks
+erased_all_lem = ap (λ (n : ℕ). steps_on n (world unformatted (Some (formatting n)) (blank 256))) four_blocks
 
 last_tells : Tells (lent_anew (happen (steps_on 4 unerased) Event.step).after) Table.fresh
 unfolding steps_on

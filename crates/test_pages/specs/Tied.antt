@@ -1,7 +1,7 @@
 -- The journals of the table and the worlds of the valve log's statement: what the table makes of views is what `happen` makes of the
 -- medium's bytes.
 use Rattle.std.specs.Prelude.{◌≡◌, Bool, true, List, ℕ, ◌^◌, length}
-use Rattle.std.proofs.Math.Option.{some}
+use Rattle.std.specs.Prelude.{Some}
 use Rattle.lists.specs.Lists.{Below}
 use Rattle.lists.specs.Needs.{gives}
 use Rattle.lists.specs.Cells.{Entry, keys_of, words_of}
@@ -17,7 +17,7 @@ use Rattle.test_pages.specs.Table.{Agree, lines, Journal, size, fresh, begin, be
 pub record Tells (w : World) (j : Journal) : Type 0 where
   pub pages : views w.medium ≡ j.pages
   pub long : length w.medium ≡ size j
-  pub state : w.state ≡ some j.state
+  pub state : w.state ≡ Some j.state
   pub buffer : w.buffer ≡ j.buffer
 
 -- The table's first journal is a world where a list of the valve log's statement starts: formatting is under way, and its next step

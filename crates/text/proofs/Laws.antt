@@ -5,101 +5,118 @@ use Prim.Native.Nat.{ℕ, zero, suc, ◌+◌, ◌-◌, ◌*◌, ◌/◌, ◌%◌
 use native.Mathlib.Omega.{arith}
 use native.Mathlib.Nat.{mod-eq_of_lt, pow-succ', one-le-pow, pow-le-pow_right, le_trans}
 use native.Mathlib.Decide.{dec_le}
-use lib.ListN.{length, take, set, get_or, length-set}
-use lib.Seq.{length-take-le, take_all, take-suc, take-append_seam, take-append-add, take-suc-set}
+use lib.ListN.{length, take, drop, length-take, length-drop, length-append, drop_of_length-le}
+use lib.Seq.{length-take-le, take_all, drop-append-le, drop-append-add, drop-nil}
 use borrow.Author.Tests.{lt-ltb, le-ltb}
+use borrow.Rule.Slice.PartMut.{put_mid, same_len_mid}
+use Rattle.std.proofs.lemmas.Slice.{take-put_mid}
 use Rattle.io.specs.Digits.{hex_digit_ascii, last_digits, IsDigitCount}
-use Rattle.text.specs.Text.{decimal_within, decimal, Puts, Holds}
-
--- ---- the loop that copies: i bytes are there
-
-pub record Copied (out₀ : List ℕ) (n : ℕ) (s : List ℕ) (k : ℕ) (out : List ℕ) (i : ℕ) : Type 0 where
-  pub far : i ≤ k
-  pub long : length out ≡ length out₀
-  pub so : take (n + i) out ≡ take n out₀ ++ take i s
-
-pub copy_start : (out : List ℕ) (n : ℕ) (s : List ℕ) (k : ℕ) → Copied out n s k out 0
-copy_start out n s k =
-    let z : n + 0 ≡ n = omega arith in
-    record { far = omega arith; long = refl; so = rw z (sym (append-nil (take n out))) }
-
-module _ (out₀ : List ℕ) (n : ℕ) (s : List ℕ) (k : ℕ) (e : k ≡ min (length s) (length out₀ - n)) where
-  pub copy_in : (i : ℕ) → i < k → i < length s
-  copy_in i h = omega arith
-
-  pub copy_room : n < length out₀ → (out : List ℕ) (i : ℕ) → i < k → Copied out₀ n s k out i → n + i < length out
-  copy_room l out i h c = let q = c.long in omega arith
-
-  pub copy_next : n < length out₀ → (out : List ℕ) (i : ℕ) → i < k → Copied out₀ n s k out i
-      → Copied out₀ n s k (set out (n + i) (get_or s i 0)) (i + 1)
-  copy_next l out i h c =
-      let z : n + (i + 1) ≡ suc (n + i) = omega arith in
-      let y : i + 1 ≡ suc i = omega arith in
-      record {
-        far = omega arith;
-        long = length-set out (n + i) (get_or s i 0) ∙ c.long;
-        so =
-            rw (z, y)
-            (take-suc-set out (n + i) (get_or s i 0) (copy_room l out i h c)
-            ∙ ap (λ (t : List ℕ). t ++ (get_or s i 0 ∷ [])) c.so
-            ∙ append_assoc (take n out₀) (take i s) (get_or s i 0 ∷ [])
-            ∙ ap (λ (t : List ℕ). take n out₀ ++ t) (sym (take-suc s i 0 (copy_in i h))));
-      }
-
-  pub copy_end : n < length out₀ → (out : List ℕ) (i : ℕ) → k ≤ i → Copied out₀ n s k out i → Puts out₀ n s out (n + k)
-  copy_end l out i h c =
-      let z : i ≡ k = let f = c.far in omega arith in
-      let a : length (take n out₀) ≡ n = length-take-le n out₀ (omega arith) in
-      let y : length out₀ ≡ length (take n out₀) + (length out₀ - n) = omega arith in
-      let t : take (length out₀) (take n out₀ ++ s) ≡ take n out₀ ++ take (length out₀ - n) s =
-      ap (λ (j : ℕ). take j (take n out₀ ++ s)) y ∙ take-append-add (take n out₀) s (length out₀ - n) in
-      let w : take (n + k) out ≡ take n out₀ ++ take k s = rw z at c.so in
-      record {
-        long = c.long;
-        so = w ∙ ap (λ (u : List ℕ). take n out₀ ++ u) (cut (dec_le (length s) (length out₀ - n))) ∙ sym t;
-        within = λ _. omega arith;
-      }
-    where
-      cut : Dec (length s ≤ length out₀ - n) → take k s ≡ take (length out₀ - n) s
-      cut (yes p) = let q : length s ≤ k = omega arith in take_all k s q ∙ sym (take_all (length out₀ - n) s p)
-      cut (no p) = let q : k ≡ length out₀ - n = omega arith in ap (λ (j : ℕ). take j s) q
-
-pub copy_none : (out : List ℕ) (n : ℕ) (s : List ℕ) → length out ≤ n → Puts out n s out n
-copy_none out n s h =
-    let a = take_all n out h in
-    record {
-      long = refl;
-      so = a ∙ sym (take-append_seam out s) ∙ ap (λ (t : List ℕ). take (length out) (t ++ s)) (sym a);
-      within = λ k. k;
-    }
+use Rattle.text.specs.Filled.{Filled, starting}
+use Rattle.text.specs.Text.{decimal_within, decimal, Puts}
 
 -- ---- one text behind the other
 
-pub take_cut : (k : ℕ) (xs ys : List ℕ) → take k (take k xs ++ ys) ≡ take k (xs ++ ys)
-take_cut zero xs ys = refl
-take_cut (suc k) [] ys = refl
-take_cut (suc k) (x ∷ xs) ys = ap (λ (t : List ℕ). x ∷ t) (take_cut k xs ys)
+seam : (k : ℕ) (x y : List ℕ) → take k x ++ take (k - length (take k x)) y ≡ take k (x ++ y)
+seam zero x y = refl
+seam (suc k) [] y = let z : suc k - 0 ≡ suc k = omega arith in ap (λ (j : ℕ). take j y) z
+seam (suc k) (c ∷ x) y =
+    let z : suc k - suc (length (take k x)) ≡ k - length (take k x) = omega arith in
+    ap (λ (t : List ℕ). c ∷ t) (ap (λ (j : ℕ). take k x ++ take j y) z ∙ seam k x y)
 
-pub puts_then : {out : List ℕ} {n : ℕ} {x out₁ : List ℕ} {r₁ : ℕ} {y out₂ : List ℕ} {r₂ : ℕ} → Puts out n x out₁ r₁
-    → Puts out₁ r₁ y out₂ r₂ → Puts out n (x ++ y) out₂ r₂
-puts_then {out} {n} {x} {out₁} {r₁} {y} {out₂} {r₂} p q =
-    record {
-      long = q.long ∙ p.long;
+-- two texts in turn behind a third, as far as there is room
+seam_behind : (n : ℕ) (t x u y v : List ℕ) → u ≡ t ++ take (n - length t) x → v ≡ u ++ take (n - length u) y
+    → v ≡ t ++ take (n - length t) (x ++ y)
+seam_behind n t x u y v p q =
+    let k = n - length t in
+    let e : n - length u ≡ k - length (take k x) = omega (arith, ap length p, length-append t (take k x)) in
+    q
+    ∙ ap (λ (j : ℕ). u ++ take j y) e
+    ∙ ap (λ (l : List ℕ). l ++ take (k - length (take k x)) y) p
+    ∙ append_assoc t (take k x) (take (k - length (take k x)) y)
+    ∙ ap (λ (l : List ℕ). t ++ l) (seam k x y)
+
+pub drop_append : (k : ℕ) (x y : List ℕ) → drop k (x ++ y) ≡ drop k x ++ drop (k - length x) y
+drop_append k x y = go (dec_le k (length x))
+  where
+    go : Dec (k ≤ length x) → drop k (x ++ y) ≡ drop k x ++ drop (k - length x) y
+    go (yes h) =
+        let z : k - length x ≡ 0 = omega arith in
+        drop-append-le k x y h ∙ ap (λ (j : ℕ). drop k x ++ drop j y) (sym z)
+    go (no h) =
+        let z : k ≡ length x + (k - length x) = omega arith in
+        let l : length x ≤ k = omega arith in
+        ap (λ (j : ℕ). drop j (x ++ y)) z
+        ∙ drop-append-add x y (k - length x)
+        ∙ ap (λ (t : List ℕ). t ++ drop (k - length x) y) (sym (drop_of_length-le x l))
+
+module _ {t : Filled} where
+  pub puts_none : Puts t [] t
+  puts_none =
+      let k = t.room - length t.text in
+      let z : t.skip - 0 ≡ t.skip = omega arith in
+      let e : take k (drop t.skip []) ≡ [] = ap (take k) (drop-nil t.skip) ∙ take_all k [] (omega arith) in
+      record { room = refl; skip = sym z; so = sym (ap (λ (l : List ℕ). t.text ++ l) e ∙ append-nil t.text) }
+
+  module _ {x : List ℕ} {u : Filled} where
+    pub puts_then : {y : List ℕ} {v : Filled} → Puts t x u → Puts u y v → Puts t (x ++ y) v
+    puts_then {y} {v} p q =
+        let a = p.skip in
+        let b = q.skip in
+        let l = length-append x y in
+        let n = t.room in
+        let e : v.text ≡ u.text ++ take (n - length u.text) (drop u.skip y) =
+        q.so ∙ ap (λ (j : ℕ). u.text ++ take (j - length u.text) (drop u.skip y)) p.room in
+        record {
+          room = q.room ∙ p.room;
+          skip = omega arith;
+          so =
+              seam_behind n t.text (drop t.skip x) u.text (drop u.skip y) v.text p.so e
+              ∙ ap (λ (j : ℕ). t.text ++ take (n - length t.text) (drop t.skip x ++ drop j y)) p.skip
+              ∙ ap (λ (s : List ℕ). t.text ++ take (n - length t.text) s) (sym (drop_append t.skip x y));
+        }
+
+    pub puts_same : {y : List ℕ} → x ≡ y → Puts t x u → Puts t y u
+    puts_same e p = rw (← e) p
+
+-- ---- bytes put behind the text: k of s from place n on
+
+-- what of s is shown, where b bytes of it are left out
+shown_is : (s : List ℕ) (skip b : ℕ) → b ≡ min skip (length s) → take (length s - b) (drop b s) ≡ drop skip s
+shown_is s skip b e = go (dec_le skip (length s))
+  where
+    all : take (length s - b) (drop b s) ≡ drop b s
+    all = take_all (length s - b) (drop b s) (omega (arith, length-drop b s))
+
+    go : Dec (skip ≤ length s) → take (length s - b) (drop b s) ≡ drop skip s
+    go (yes h) = let z : b ≡ skip = omega arith in all ∙ ap (λ (k : ℕ). drop k s) z
+    go (no h) =
+        let y : length s ≤ b = omega arith in
+        let z : length s ≤ skip = omega arith in
+        all ∙ drop_of_length-le s y ∙ sym (drop_of_length-le s z)
+
+pub puts_pushed : {t : Filled} (bytes s x : List ℕ) {ys : List ℕ} (n skip b j : ℕ) {k : ℕ}
+    → record { room = length bytes; text = take n bytes; skip = skip } ≡ t → n ≤ length bytes → b ≡ min skip (length s)
+    → x ≡ take (length s - b) (drop b s) → k ≡ min (length x) (length bytes - n) → j ≡ k → ys ≡ take k x
+    → Puts t s (record { room = length (put_mid n j bytes ys); text = take (n + k) (put_mid n j bytes ys); skip = skip - b })
+puts_pushed bytes s x {ys} n skip b j {k} v h l i e f g =
+    let y : length ys ≡ k = omega (arith, ap length g, length-take k x) in
+    let a : length (take n bytes) ≡ n = length-take-le n bytes h in
+    rw (← v)
+    (record {
+      room = same_len_mid n j bytes ys (omega (arith, length-take j (drop n bytes), length-drop n bytes));
+      skip = omega arith;
       so =
-          q.so
-          ∙ ap₂ (λ (k : ℕ) (t : List ℕ). take k (t ++ y)) p.long p.so
-          ∙ take_cut (length out) (take n out ++ x) y
-          ∙ ap (take (length out)) (append_assoc (take n out) x y);
-      within = λ h.
-          let a = p.long in
-          let b = p.within h in
-          let k : r₁ ≤ length out₁ = omega arith in
-          let l = q.within k in
-          omega arith;
-    }
-
-pub puts_same : {out : List ℕ} {n : ℕ} {x y out' : List ℕ} {r : ℕ} → x ≡ y → Puts out n x out' r → Puts out n y out' r
-puts_same e p = rw (← e) p
+          take-put_mid n j bytes ys (n + k) (omega arith) h
+          ∙ ap (λ (u : List ℕ). take n bytes ++ u)
+          (g
+          ∙ cut (dec_le (length x) (length bytes - n))
+          ∙ ap (λ (u : List ℕ). take (length bytes - n) u) (i ∙ shown_is s skip b l)
+          ∙ ap (λ (i : ℕ). take (length bytes - i) (drop skip s)) (sym a));
+    })
+  where
+    cut : Dec (length x ≤ length bytes - n) → take k x ≡ take (length bytes - n) x
+    cut (yes p) = let q : length x ≤ k = omega arith in take_all k x q ∙ sym (take_all (length bytes - n) x p)
+    cut (no p) = let q : k ≡ length bytes - n = omega arith in ap (λ (j : ℕ). take j x) q
 
 -- ---- numbers
 
@@ -142,7 +159,7 @@ twenty x k l m = go (dec_le (suc k) 20)
         let c : 10 ^ 20 ≤ x = le_trans a b in
         absurd (omega arith)
 
-number_is : (x k : ℕ) (d : List ℕ) → x < 2 ^ 64 → IsDigitCount 10 1 x k → take k d ≡ last_digits 10 k x → take k d ≡ decimal x
+pub number_is : (x k : ℕ) (d : List ℕ) → x < 2 ^ 64 → IsDigitCount 10 1 x k → take k d ≡ last_digits 10 k x → take k d ≡ decimal x
 unfolding decimal
 number_is x zero d l f g = absurd (omega (arith, f.0))
 number_is x (suc k) d l f g =
@@ -150,15 +167,7 @@ number_is x (suc k) d l f g =
     let b : 0 < k → 10 ^ k ≤ x = λ h. rw z at (f.2 (omega arith)) in
     g ∙ digits_are k 20 x (twenty x k l b) f.1 b
 
-pub puts_number : {out : List ℕ} {n : ℕ} (d : List ℕ) {out' : List ℕ} {r k x : ℕ} → x < 2 ^ 64 → IsDigitCount 10 1 x k
-    → take k d ≡ last_digits 10 k x → Puts out n (take k d) out' r → Puts out n (decimal x) out' r
-puts_number d {k = k} {x = x} l f g p = puts_same (number_is x k d l f g) p
+-- ---- where there is room for all of a text
 
--- ---- a text put at the front, where there is room for all of it
-
-pub puts_all : {out x out' : List ℕ} {r : ℕ} → length x ≤ length out → Puts out 0 x out' r → Holds out' r x
-puts_all {out} {x} {out'} {r} l p =
-    let a = p.within (omega arith) in
-    let b = p.long in
-    let c : r ≤ length out' = omega arith in
-    record { within = c; part = sym (length-take-le r out' c); is = p.so ∙ take_all (length out) x l }
+pub puts_all : {room : ℕ} {x : List ℕ} {u : Filled} → length x ≤ room → Puts (starting room 0) x u → u.text ≡ x
+puts_all {room} {x} l p = p.so ∙ take_all (room - 0) x (omega arith)

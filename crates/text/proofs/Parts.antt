@@ -1,7 +1,7 @@
 -- Laws of the loop that prints a text part by part, in the shapes that the code's proofs ask.
 use mathlib.Core.Path.{◌≡◌, refl, sym, ap, ◌∙◌}
-use mathlib.Core.Bool.{true, false}
 use mathlib.Core.List.{List}
+use mathlib.Core.Bool.{Bool, true, false}
 use Prim.Native.Nat.{ℕ, ◌+◌, ◌-◌, ◌≤◌, ◌<◌}
 use native.Mathlib.Omega.{arith}
 use native.Mathlib.Decide.{dec_le}
@@ -9,15 +9,16 @@ use mir.Val.{Fits}
 use mir.Syntax.{w64}
 use lib.ListN.{length, take, drop}
 use lib.Seq.{length-take-le, take_all, take-add, take-take}
+use borrow.Author.Tests.{eqb-true, eqb-false}
+use Rattle.std.specs.Prelude.{◌==◌, Some, None}
 use Rattle.std.proofs.KnownBytes.{Appends-trans}
 use Rattle.std.specs.Io.KnownBytes.{Appends}
 use Rattle.std.specs.declared.option.Option.{Option}
-use Rattle.lists.proofs.Laws.{true_false}
-use Rattle.text.specs.declared.WindowState.{WindowState}
-use Rattle.text.specs.Text.{Holds}
-use Rattle.text.specs.Window.{window, window_from, Shows}
+use Rattle.text.specs.Filled.{Filled, starting}
+use Rattle.text.specs.Text.{Puts}
+use Rattle.text.specs.Window.{window}
 use Rattle.text.specs.Parts.{most_printed, Sees, PartAt, PrintsAll}
-use Rattle.text.proofs.Window.{length_window, shows_window}
+use Rattle.text.proofs.Seen.{length_window, puts_window}
 
 -- a window is as long as it is
 window_itself : (from size : ℕ) (text : List ℕ) → window from (length (window from size text)) text ≡ window from size text
@@ -39,71 +40,85 @@ unfolding window
 of_window from size n text h = take-take n size (drop from text) h
 
 -- a window on a whole text that is not too long
-pub sees_shown : {out : List ℕ} {from : ℕ} {text out' : List ℕ} {w : WindowState} → length text ≤ most_printed
-    → Shows out (window_from from) text out' w → Sees text from out' w.filled
-sees_shown {out} {from} {text} {out'} {w} few p =
-    let h = shows_window p in
-    let k = h.part in
-    let g : Holds out' w.filled (window from (length out') text) = rw p.long h in
-    record { holds = g; low = omega (arith, ap length h.is, length_window from (length out) text) }
+pub sees_put : {room from : ℕ} {text : List ℕ} {old t : Filled} → old.room ≡ room → length text ≤ most_printed
+    → Puts (starting room from) text t → Sees text from old t
+sees_put {room} {from} {text} {old} {t} e few p =
+    let h : t.text ≡ window from room text = puts_window p in
+    let g : t.text ≡ window from t.room text = h ∙ ap (λ (k : ℕ). window from k text) (sym p.room) in
+    record { room = p.room ∙ sym e; is = g; low = omega (arith, ap length h, length_window from room text) }
 
-module _ (text : List ℕ) (from : ℕ) (out : List ℕ) (k : ℕ) (s : Sees text from out k) where
-  length_is : k ≡ length (window from (length out) text)
-  length_is = s.holds.part ∙ ap length s.holds.is
+pub part_seen : (text : List ℕ) (from : ℕ) (old w : Filled) → Sees text from old w → (part : List ℕ) → part ≡ w.text → PartAt text from part
+part_seen text from old w s part q =
+    let e = s.is in
+    rw q (record { is = e ∙ sym (window_itself from w.room text) ∙ ap (λ (j : ℕ). window from j text) (ap length (sym e)) })
 
-  pub part_seen : PartAt text from (take k out)
-  part_seen =
-      let e = s.holds.is in
-      record { is = e ∙ sym (window_itself from (length out) text) ∙ ap (λ (j : ℕ). window from j text) (ap length (sym e)) }
+-- all of a text was printed
+pub prints_all : (text : List ℕ) (n : ℕ) → n ≡ length text → PrintsAll text (Some n)
+prints_all text n e = record { all = λ k h. sym (some_inj h) ∙ e }
+  where
+    value : Option ℕ → ℕ
+    value None = 0
+    value (Some k) = k
+
+    some_inj : {k : ℕ} → Some n ≡ Some k → n ≡ k
+    some_inj h = ap value h
 
 -- so many bytes of a text were printed
-pub record Printing (text out₀ out : List ℕ) (from : ℕ) : Type 0 where
+pub record Printing (text : List ℕ) (start old : Filled) (from : ℕ) : Type 0 where
   pub far : from ≤ length text
   pub low : from ≤ most_printed
-  pub long : length out ≡ length out₀
+  pub room : old.room ≡ start.room
 
-pub printing_start : (text out : List ℕ) → Printing text out out 0
-printing_start text out = record { far = omega arith; low = omega arith; long = refl }
+pub printing_start : (text : List ℕ) (start : Filled) → Printing text start start 0
+printing_start text start = record { far = omega arith; low = omega arith; room = refl }
 
-pub printing_failed : (text : List ℕ) (n : ℕ) → PrintsAll text (record { failed = true; count = n })
-printing_failed text n = record { all = λ e. true_false refl e }
+module _ (text : List ℕ) (start old : Filled) (from : ℕ) (P : Printing text start old from) (w : Filled) (s : Sees text from old w)
+    (part : List ℕ) (q : part ≡ w.text) where
+  long : length part ≡ length (window from w.room text)
+  long = ap length (q ∙ s.is)
 
-module _ (text out₀ out : List ℕ) (from : ℕ) (P : Printing text out₀ out from) (out' : List ℕ) (k : ℕ) (s : Sees text from out' k) where
-  pub printing_fits : Fits w64 (from + k)
-  printing_fits = let l = P.low in let h = s.low in omega arith
-
-  pub printing_end : k < length out' → PrintsAll text (record { failed = false; count = from + k })
-  printing_end h =
-      let f = P.far in
-      record { all = λ e. omega (arith, length_is text from out' k s, length_window from (length out') text) }
+  pub printing_fits : Fits w64 (from + length part)
+  printing_fits = let l = P.low in let h = s.low in omega (arith, ap length q)
 
   -- so many bytes of the part were written behind those of the text before it
-  module _ (n : ℕ) (few : n ≤ length (take k out')) where
+  module _ (n : ℕ) (few : n ≤ length part) where
     pub printing_within : from + n ≤ length text
     printing_within =
         let f = P.far in
-        omega (arith, ap length s.holds.is, length_window from (length out') text)
+        omega (arith, long, length_window from w.room text)
 
-    pub printing_bytes : (old mid new : Option (List ℕ)) → Appends old mid (take from text) → Appends mid new (take n (take k out'))
-        → Appends old new (take (from + n) text)
-    printing_bytes old mid new a b =
-        let l : n ≤ length out' = omega (arith, ap length s.holds.is, length_window from (length out') text) in
-        rw (take-add from n text) (Appends-trans old mid new _ _ a (rw (s.holds.is, of_window from (length out') n text l) at b))
+    pub printing_bytes : (a b c : Option (List ℕ)) → Appends a b (take from text) → Appends b c (take n part)
+        → Appends a c (take (from + n) text)
+    printing_bytes a b c x y =
+        let l : n ≤ w.room = omega (arith, long, length_window from w.room text) in
+        rw (take-add from n text) (Appends-trans a b c _ _ x (rw (q, s.is, of_window from w.room n text l) at y))
 
-  module _ (h : length out' ≤ k) (same : length out' ≡ length out) where
-    pub printing_next : Printing text out₀ out' (from + k)
-    printing_next =
-        let f = P.far in
-        let l = P.low in
-        let g = s.low in
-        record {
-          far = omega (arith, length_is text from out' k s, length_window from (length out') text);
-          low = omega arith;
-          long = same ∙ P.long;
-        }
+  module _ (full : Bool) (e : full ≡ (length w.text == w.room)) where
+    short : full ≡ false → length w.text ≡ w.room → ⊥
+    short f g = let h = eqb-false (length w.text) w.room (sym e ∙ f) in h g
 
-    pub printing_less : 0 < length out₀ → length text - (from + k) < length text - from
-    printing_less o =
-        let f = P.far in
-        let l = P.long in
-        omega (arith, length_is text from out' k s, length_window from (length out') text)
+    same : full ≡ true → length part ≡ w.room
+    same f = let h = eqb-true (length w.text) w.room (sym e ∙ f) in omega (arith, ap length q)
+
+    pub printing_end : full ≡ false → from + length part ≡ length text
+    printing_end f =
+        let g = P.far in
+        omega (arith, long, length_window from w.room text, ap length q, short f)
+
+    module _ (f : full ≡ true) where
+      pub printing_next : Printing text start w (from + length part)
+      printing_next =
+          let g = P.far in
+          let l = P.low in
+          let h = s.low in
+          record {
+            far = omega (arith, long, length_window from w.room text);
+            low = omega (arith, same f, ap length q);
+            room = s.room ∙ P.room;
+          }
+
+      pub printing_less : 0 < start.room → length text - (from + length part) < length text - from
+      printing_less o =
+          let g = P.far in
+          let e : w.room ≡ start.room = s.room ∙ P.room in
+          omega (arith, long, length_window from w.room text, same f)

@@ -1,3 +1,4 @@
+pub mod Filled
 pub mod Text
 pub mod Decimal
 pub mod Window

@@ -1,7 +1,8 @@
 -- Text as bytes: quoted words, numbers in decimal, and what is promised of code that puts text into a lent list.
-use Rattle.std.specs.Prelude.{◌≡◌, cond, List, [], ◌∷◌, ◌++◌, ℕ, zero, suc, ◌+◌, ◌/◌, ◌%◌, ◌≤◌, length, take, ltb}
+use Rattle.std.specs.Prelude.{◌≡◌, cond, List, [], ◌∷◌, ◌++◌, ℕ, zero, suc, ◌+◌, ◌-◌, ◌/◌, ◌%◌, length, take, drop, ltb}
 use Prim.Native.Char.{code}
 use Prim.Native.String.{String, [] as end, ◌∷◌ as ◌then◌}
+use Rattle.text.specs.Filled.{Filled}
 
 -- the bytes of a quoted text, whose characters are of ASCII
 unfoldable pub ascii : String → List ℕ
@@ -17,15 +18,9 @@ decimal_within (suc k) n = cond (ltb n 10) ((48 + n) ∷ []) (decimal_within k (
 unfoldable pub decimal : ℕ → List ℕ
 decimal n = decimal_within 20 n
 
--- What is promised of a function that puts a text behind the first n bytes of a lent list `out`, leaves it as out' and answers r, how many
--- bytes of text are there then: the first n bytes and the text, as far as the list is long.
-pub record Puts (out : List ℕ) (n : ℕ) (text out' : List ℕ) (r : ℕ) : Type 0 where
-  pub long : length out' ≡ length out
-  pub so : take r out' ≡ take (length out) (take n out ++ text)
-  pub within : n ≤ length out → r ≤ length out
-
--- a lent list holds a text in its first r bytes; `part` follows from `within`, and is what the code asks for the part `&out[..r]`
-pub record Holds (out : List ℕ) (r : ℕ) (text : List ℕ) : Type 0 where
-  pub within : r ≤ length out
-  pub part : r ≡ length (take r out)
-  pub is : take r out ≡ text
+-- What is promised of a function that puts a text behind that of a lent list: the bytes of it that are to be left out are fewer by its
+-- length, and of those behind them as many are put there as there is room for.
+pub record Puts (old : Filled) (text : List ℕ) (new : Filled) : Type 0 where
+  pub room : new.room ≡ old.room
+  pub skip : new.skip ≡ old.skip - length text
+  pub so : new.text ≡ old.text ++ take (old.room - length old.text) (drop old.skip text)

@@ -1,7 +1,7 @@
 -- The form of a trace, test by test as the code asks it.
 use mathlib.Core.Path.{◌≡◌, refl, sym, ap, ◌∙◌}
-use mathlib.Core.Bool.{Bool, true, false, not, ◌&&◌}
-use mathlib.Core.List.{List}
+use mathlib.Core.Bool.{Bool, true, false, not, ◌&&◌, beq}
+use mathlib.Core.List.{List, [], ◌∷◌}
 use Prim.Native.Nat.{ℕ, zero, suc, ◌+◌, ◌-◌, ◌*◌, ◌/◌, ◌≤◌, ◌<◌}
 use native.Mathlib.Omega.{arith}
 use native.Mathlib.Numerals.{add-one}
@@ -12,12 +12,20 @@ use lib.Seq.{take-suc-set}
 use mir.Syntax.{w64}
 use mir.Val.{Fits}
 use borrow.Author.Rules.{Fits-under}
-use borrow.Author.Tests.{ltb-true, leb-true, leb-false, lt-ltb, le-ltb, le-leb, lt-leb, eq-eqb, ne_eqb, not-true, not-false}
+use borrow.Author.Tests.{eqb-true, ltb-true, leb-true, leb-false, lt-ltb, le-ltb, le-leb, lt-leb, eq-eqb, ne_eqb, not-true, not-false}
 use Rattle.lists.specs.Lists.{every, all_below, table}
-use Rattle.lists.proofs.Laws.{Held, held_next, held_stop, held_end, by_cases, every_at}
+use Rattle.lists.proofs.Laws.{Held, held_next, held_stop, held_end, by_cases, every_at, true_false}
 use Rattle.codec.specs.Codec.{le, part}
+use Rattle.std.proofs.Common.{Result, Ok, Err, ◌⊎◌, inl, inr}
+use Rattle.std.specs.Result.{result_unwrap_or}
+use denote.Enum.Bare.{sameb}
+use Rattle.trace.specs.declared.Kind.{Kind}
+use Rattle.trace.specs.declared.Kind.TheVariants.{Format, Append, Commit, Collect, Step, Cut, Recover, Buffer, Flush}
+use Rattle.trace.specs.declared.UnknownCode.{UnknownCode}
+use Rattle.trace.specs.contracts.Kind.{the_type}
+use Rattle.trace.specs.Kinds.{code_of, Decodes, kind_as, kind_at}
 use Rattle.trace.specs.Trace.{call_count, code_at, number_at, has_group, without_number, number_ok, pattern_size, data_size, data_below, data_start}
-use Rattle.trace.specs.Trace.{formats_once, recovers_next, call_ok, has_lists, well_formed, numbers_at}
+use Rattle.trace.specs.Trace.{formats_once, recovers_next, call_ok, has_lists, well_formed, numbers_at, recorded_as, recorded_at}
 use Rattle.trace.specs.Read.{Listed, HasCall}
 
 -- the last of some tests
@@ -25,28 +33,38 @@ whole : (b : Bool) → b ≡ b && true
 whole true = refl
 whole false = refl
 
+-- a test that is to be as another
+beq_true : (b : Bool) → beq b true ≡ b
+beq_true true = refl
+beq_true false = refl
+
+beq_false : (b : Bool) → beq b false ≡ not b
+beq_false true = refl
+beq_false false = refl
+
 -- ---- the lists
 
 module _ (t : List ℕ) where
-  pub lists_long : 65536 < length t → false ≡ has_lists t
+  pub lists_none : (65536 < length t) ⊎ ((length t ≤ 65536) × (length t < 8)) → false ≡ has_lists t
   unfolding has_lists every
-  lists_long h = rw (lt-leb (length t) 65536 h)
+  lists_none (inl h) = rw (lt-leb (length t) 65536 h)
+  lists_none (inr h) = rw (le-leb (length t) 65536 h.0, lt-leb 8 (length t) h.1)
 
-  pub lists_short : length t ≤ 65536 → length t < 8 → false ≡ has_lists t
-  unfolding has_lists every
-  lists_short a h = rw (le-leb (length t) 65536 a, lt-leb 8 (length t) h)
+  module _ (c : ℕ) (a : length t ≤ 65536) (b : 8 ≤ length t) (e : c ≡ le (part 0 8 t)) where
+    pub lists_some : 0 < c → leb c ((length t - 8) / 16) ≡ has_lists t
+    unfolding has_lists every call_count
+    lists_some h =
+        let x : ltb 0 (le (part 0 8 t)) ≡ true = rw e at (lt-ltb 0 c h) in
+        rw (e, le-leb (length t) 65536 a, le-leb 8 (length t) b, x)
+        (by_cases (leb (le (part 0 8 t)) ((length t - 8) / 16))
+        (λ q. let k = leb-true (le (part 0 8 t)) ((length t - 8) / 16) q in rw (q, le-leb (8 + 16 * le (part 0 8 t)) (length t) (omega arith)))
+        (λ q. let k = leb-false (le (part 0 8 t)) ((length t - 8) / 16) q in rw (q, lt-leb (8 + 16 * le (part 0 8 t)) (length t) (omega arith))))
 
-  pub lists_many : (c : ℕ) → length t ≤ 65536 → 8 ≤ length t → c ≡ le (part 0 8 t) → (length t - 8) / 16 < c → false ≡ has_lists t
-  unfolding has_lists every call_count
-  lists_many c a b e h =
-      let k : length t < 8 + 16 * le (part 0 8 t) = omega arith in
-      rw (le-leb (length t) 65536 a, le-leb 8 (length t) b, lt-leb (8 + 16 * le (part 0 8 t)) (length t) k)
-
-  pub lists_some : (c : ℕ) → length t ≤ 65536 → 8 ≤ length t → c ≡ le (part 0 8 t) → c ≤ (length t - 8) / 16 → ltb 0 c ≡ has_lists t
-  unfolding has_lists every call_count
-  lists_some c a b e h =
-      let k : 8 + 16 * le (part 0 8 t) ≤ length t = omega arith in
-      rw (e, le-leb (length t) 65536 a, le-leb 8 (length t) b, le-leb (8 + 16 * le (part 0 8 t)) (length t) k) (whole (ltb 0 (le (part 0 8 t))))
+    pub lists_empty : c ≤ 0 → ltb 0 c ≡ has_lists t
+    unfolding has_lists every call_count
+    lists_empty h =
+        let z : le (part 0 8 t) ≡ 0 = omega arith in
+        rw (e, z, le-leb (length t) 65536 a, le-leb 8 (length t) b)
 
   pub lists_are : has_lists t ≡ true → Listed t
   unfolding has_lists
@@ -64,99 +82,171 @@ module _ (t : List ℕ) where
   unfolding call_count
   count_is c e = e
 
-  pub code_is : (i c : ℕ) → c ≡ le (part (8 + 8 * i) 8 t) → c ≡ code_at t i
-  unfolding code_at
-  code_is i c e = e
-
   pub number_is : (i n c : ℕ) → n ≡ call_count t → c ≡ le (part (8 + 8 * n + 8 * i) 8 t) → c ≡ number_at t i
   unfolding number_at
   number_is i n c e q = rw e at q
 
--- ---- codes and numbers
+-- ---- kinds and their codes
 
-module _ (code : ℕ) where
-  pub group_append : code ≡ 2 → true ≡ has_group code
-  unfolding has_group
-  group_append e = rw e
+-- what holds of each kind with its code, and of a flush with any code that is none of the first eight, holds of each code
+kinds : (P : ℕ → Kind → Type 0) → P 1 Format → P 2 Append → P 3 Commit → P 4 Collect → P 5 Step → P 6 Cut → P 7 Recover → P 8 Buffer
+    → ((c : ℕ) → (c ≡ 1 → ⊥) → (c ≡ 2 → ⊥) → (c ≡ 3 → ⊥) → (c ≡ 4 → ⊥) → (c ≡ 5 → ⊥) → (c ≡ 6 → ⊥) → (c ≡ 7 → ⊥) → (c ≡ 8 → ⊥) → P c Flush)
+    → (c : ℕ) → P c (kind_as c)
+unfolding kind_as
+kinds P p1 p2 p3 p4 p5 p6 p7 p8 p9 c =
+    by_cases (eqb c 1) (λ q. rw (eqb-true c 1 q) p1) (λ q1. rw q1
+    (by_cases (eqb c 2) (λ q. rw (eqb-true c 2 q) p2) (λ q2. rw q2
+    (by_cases (eqb c 3) (λ q. rw (eqb-true c 3 q) p3) (λ q3. rw q3
+    (by_cases (eqb c 4) (λ q. rw (eqb-true c 4 q) p4) (λ q4. rw q4
+    (by_cases (eqb c 5) (λ q. rw (eqb-true c 5 q) p5) (λ q5. rw q5
+    (by_cases (eqb c 6) (λ q. rw (eqb-true c 6 q) p6) (λ q6. rw q6
+    (by_cases (eqb c 7) (λ q. rw (eqb-true c 7 q) p7) (λ q7. rw q7
+    (by_cases (eqb c 8) (λ q. rw (eqb-true c 8 q) p8) (λ q8. rw q8
+    (p9 c (other c 1 q1) (other c 2 q2) (other c 3 q3) (other c 4 q4) (other c 5 q5) (other c 6 q6) (other c 7 q7) (other c 8 q8)))))))))))))))))
+  where
+    other : (a b : ℕ) → eqb a b ≡ false → a ≡ b → ⊥
+    other a b q e = true_false (eq-eqb a b e) q
 
-  pub group_buffer : (code ≡ 2 → ⊥) → eqb code 8 ≡ has_group code
-  unfolding has_group
-  group_buffer f = rw (ne_eqb code 2 f)
+same_format : (c : ℕ) → sameb the_type (kind_as c) Format ≡ eqb c 1
+same_format = kinds (λ c k. sameb the_type k Format ≡ eqb c 1) refl refl refl refl refl refl refl refl (λ c h1 h2 h3 h4 h5 h6 h7 h8. sym (ne_eqb c 1 h1))
 
-  pub none_commit : code ≡ 3 → true ≡ without_number code
-  unfolding without_number
-  none_commit e = rw e
+same_cut : (c : ℕ) → sameb the_type (kind_as c) Cut ≡ eqb c 6
+same_cut = kinds (λ c k. sameb the_type k Cut ≡ eqb c 6) refl refl refl refl refl refl refl refl (λ c h1 h2 h3 h4 h5 h6 h7 h8. sym (ne_eqb c 6 h6))
 
-  pub none_step : code ≡ 5 → true ≡ without_number code
-  unfolding without_number
-  none_step e = rw e
+same_recover : (c : ℕ) → sameb the_type (kind_as c) Recover ≡ eqb c 7
+same_recover = kinds (λ c k. sameb the_type k Recover ≡ eqb c 7) refl refl refl refl refl refl refl refl (λ c h1 h2 h3 h4 h5 h6 h7 h8. sym (ne_eqb c 7 h7))
 
-  pub none_recover : code ≡ 7 → true ≡ without_number code
-  unfolding without_number
-  none_recover e = rw e
+-- the bytes of a call are as many by its code as by its kind
+kind_size : (n c : ℕ) → data_size (code_of (kind_as c)) n ≡ data_size c n
+unfolding data_size has_group
+kind_size n =
+    kinds (λ c k. data_size (code_of k) n ≡ data_size c n) refl refl refl refl refl refl refl refl
+    (λ c h1 h2 h3 h4 h5 h6 h7 h8. rw (ne_eqb c 2 h2, ne_eqb c 8 h8, ne_eqb c 6 h6))
 
-  pub none_flush : (code ≡ 3 → ⊥) → (code ≡ 5 → ⊥) → (code ≡ 7 → ⊥) → eqb code 9 ≡ without_number code
-  unfolding without_number
-  none_flush a b c = rw (ne_eqb code 3 a, ne_eqb code 5 b, ne_eqb code 7 c)
+-- and it is recorded alike
+kind_recorded : (n k : ℕ) (t : List ℕ) (c : ℕ) → recorded_as (code_of (kind_as c)) n k t ≡ recorded_as c n k t
+unfolding recorded_as
+kind_recorded n k t =
+    kinds (λ c x. recorded_as (code_of x) n k t ≡ recorded_as c n k t) refl refl refl refl refl refl refl refl
+    (λ c h1 h2 h3 h4 h5 h6 h7 h8. rw (ne_eqb c 1 h1, ne_eqb c 2 h2, ne_eqb c 3 h3, ne_eqb c 4 h4, ne_eqb c 5 h5, ne_eqb c 6 h6, ne_eqb c 7 h7, ne_eqb c 8 h8))
 
-module _ (code n : ℕ) where
-  pub number_few : code ≡ 1 → n < 4 → false ≡ number_ok code n
-  unfolding number_ok
-  number_few e h = rw (e, lt-leb 4 n h)
+kind_group : (c : ℕ) → has_group (code_of (kind_as c)) ≡ has_group c
+unfolding has_group
+kind_group = kinds (λ c x. has_group (code_of x) ≡ has_group c) refl refl refl refl refl refl refl refl (λ c h1 h2 h3 h4 h5 h6 h7 h8. rw (ne_eqb c 2 h2, ne_eqb c 8 h8))
 
-  pub number_blocks : code ≡ 1 → 4 ≤ n → leb n 16 ≡ number_ok code n
-  unfolding number_ok
-  number_blocks e h = rw (e, le-leb 4 n h)
+-- the kind that a code stands for
+kind_back : (k : Kind) → kind_as (code_of k) ≡ k
+unfolding kind_as
+kind_back Format = refl
+kind_back Append = refl
+kind_back Commit = refl
+kind_back Collect = refl
+kind_back Step = refl
+kind_back Cut = refl
+kind_back Recover = refl
+kind_back Buffer = refl
+kind_back Flush = refl
 
-  pub number_cut : code ≡ 6 → leb n 271 ≡ number_ok code n
-  unfolding number_ok
-  number_cut e = rw e
+kind_none : (c : ℕ) → (c ≡ 0) ⊎ (9 < c) → kind_as c ≡ Flush
+unfolding kind_as
+kind_none c (inl z) = rw z
+kind_none c (inr h) =
+    rw (
+      ne_eqb c 1 (λ e. absurd (omega arith)),
+      ne_eqb c 2 (λ e. absurd (omega arith)),
+      ne_eqb c 3 (λ e. absurd (omega arith)),
+      ne_eqb c 4 (λ e. absurd (omega arith)),
+      ne_eqb c 5 (λ e. absurd (omega arith)),
+      ne_eqb c 6 (λ e. absurd (omega arith)),
+      ne_eqb c 7 (λ e. absurd (omega arith)),
+      ne_eqb c 8 (λ e. absurd (omega arith)),
+    )
 
-  module _ (f : code ≡ 1 → ⊥) (g : code ≡ 6 → ⊥) where
-    pub number_group : (r : Bool) → r ≡ has_group code → r ≡ true → true ≡ number_ok code n
-    unfolding number_ok
-    number_group r e h = let k : has_group code ≡ true = sym e ∙ h in rw (ne_eqb code 1 f, ne_eqb code 6 g, k)
+-- a kind, or a flush where the code is that of no kind
+decoded : (c : ℕ) (r : Result Kind UnknownCode) → Decodes c r → result_unwrap_or r Flush ≡ kind_as c
+decoded c (Ok k) e = rw (sym e) (sym (kind_back k))
+decoded c (Err x) e = sym (kind_none c e.1)
 
-    pub number_collect : code ≡ 4 → true ≡ number_ok code n
-    unfolding number_ok has_group
-    number_collect e = rw e
+module _ (t : List ℕ) (i : ℕ) where
+  -- a call by its kind
+  pub recorded_kind : (n at : ℕ) → n ≡ number_at t i → at ≡ data_start t i → recorded_at t i ≡ recorded_as (code_of (kind_at t i)) n at t
+  unfolding recorded_at kind_at
+  recorded_kind n at e q = rw (e, q) (sym (kind_recorded (number_at t i) (data_start t i) t (code_at t i)))
 
-    module _ (r : Bool) (e : r ≡ has_group code) (h : r ≡ false) (k : code ≡ 4 → ⊥) (q : Bool) (u : q ≡ without_number code) where
-      pub number_none : q ≡ true → eqb n 0 ≡ number_ok code n
-      unfolding number_ok
-      number_none z =
-          let a : has_group code ≡ false = sym e ∙ h in let b : without_number code ≡ true = sym u ∙ z in
-          rw (ne_eqb code 1 f, ne_eqb code 6 g, a, ne_eqb code 4 k, b)
+  pub group_kind : has_group (code_at t i) ≡ has_group (code_of (kind_at t i))
+  unfolding kind_at
+  group_kind = sym (kind_group (code_at t i))
 
-      pub number_other : q ≡ false → false ≡ number_ok code n
-      unfolding number_ok
-      number_other z =
-          let a : has_group code ≡ false = sym e ∙ h in let b : without_number code ≡ false = sym u ∙ z in
-          rw (ne_eqb code 1 f, ne_eqb code 6 g, a, ne_eqb code 4 k, b)
+  pub cut_code : kind_at t i ≡ Cut → code_at t i ≡ 6
+  unfolding kind_at
+  cut_code e = eqb-true (code_at t i) 6 (sym (same_cut (code_at t i)) ∙ ap (λ (k : Kind). sameb the_type k Cut) e)
+
+  pub read_is : (c : ℕ) (r : Result Kind UnknownCode) → c ≡ le (part (8 + 8 * i) 8 t) → Decodes c r → Decodes (code_at t i) r
+  unfolding code_at
+  read_is c r e d = rw e at d
+
+  pub kind_is : (r : Result Kind UnknownCode) (k : Kind) → Decodes (code_at t i) r → k ≡ result_unwrap_or r Flush → k ≡ kind_at t i
+  unfolding kind_at
+  kind_is r k d e = e ∙ decoded (code_at t i) r d
+
+  -- the code of a call that is read
+  pub code_known : (r : Result Kind UnknownCode) (k : Kind) → Decodes (code_at t i) r → r ≡ Ok k → code_of k ≡ code_at t i
+  code_known r k d e = rw e at d
+
+  -- a call whose code is unknown
+  pub call_unknown : (r : Result Kind UnknownCode) (x : UnknownCode) → Decodes (code_at t i) r → r ≡ Err x → false ≡ call_ok t i
+  unfolding call_ok every number_ok has_group without_number
+  call_unknown r x d e =
+      let h : (x.0 ≡ code_at t i) × ((code_at t i ≡ 0) ⊎ (9 < code_at t i)) = rw e at d in
+      go (code_at t i) h.1
+    where
+      go : (c : ℕ) → (c ≡ 0) ⊎ (9 < c) → false ≡ every (number_ok c (number_at t i) ∷ formats_once t i ∷ recovers_next t i ∷ [])
+      go c (inl z) = rw z
+      go c (inr h) =
+          rw (
+            ne_eqb c 1 (λ e. absurd (omega arith)),
+            ne_eqb c 2 (λ e. absurd (omega arith)),
+            ne_eqb c 3 (λ e. absurd (omega arith)),
+            ne_eqb c 4 (λ e. absurd (omega arith)),
+            ne_eqb c 5 (λ e. absurd (omega arith)),
+            ne_eqb c 6 (λ e. absurd (omega arith)),
+            ne_eqb c 7 (λ e. absurd (omega arith)),
+            ne_eqb c 8 (λ e. absurd (omega arith)),
+            ne_eqb c 9 (λ e. absurd (omega arith)),
+          )
 
 -- ---- one call
 
-module _ (t : List ℕ) (i c : ℕ) (e : c ≡ code_at t i) where
-  pub once_first : i ≡ 0 → eqb c 1 ≡ formats_once t i
-  unfolding formats_once
-  once_first z = rw (← e, eq-eqb i 0 z)
+module _ (t : List ℕ) (i : ℕ) (k : Kind) (e : k ≡ kind_at t i) where
+  pub once_is : (x : Bool) → x ≡ sameb the_type k Format → beq x (eqb i 0) ≡ formats_once t i
+  unfolding formats_once kind_at
+  once_is x u =
+      let y : x ≡ eqb (code_at t i) 1 = u ∙ ap (λ (j : Kind). sameb the_type j Format) e ∙ same_format (code_at t i) in
+      rw y (by_cases (eqb i 0) (λ q. rw q (beq_true _)) (λ q. rw q (beq_false _)))
 
-  pub once_later : (i ≡ 0 → ⊥) → not (eqb c 1) ≡ formats_once t i
-  unfolding formats_once
-  once_later z = rw (← e, ne_eqb i 0 z)
+  cut_is : sameb the_type k Cut ≡ eqb (code_at t i) 6
+  unfolding kind_at
+  cut_is = ap (λ (j : Kind). sameb the_type j Cut) e ∙ same_cut (code_at t i)
 
-  pub next_any : (c ≡ 6 → ⊥) → true ≡ recovers_next t i
-  unfolding recovers_next
-  next_any z = rw (← e, ne_eqb c 6 z)
-
-  module _ (z : c ≡ 6) (n : ℕ) (k : n ≡ call_count t) where
-    pub next_last : n ≤ i + 1 → false ≡ recovers_next t i
+  module _ (x : Bool) (u : x ≡ not (sameb the_type k Cut)) where
+    pub next_any : x ≡ true → true ≡ recovers_next t i
     unfolding recovers_next
-    next_last h = rw (← e, eq-eqb c 6 z, ← k, le-ltb (suc i) n (omega arith))
+    next_any z = let f : eqb (code_at t i) 6 ≡ false = sym cut_is ∙ not-true (sameb the_type k Cut) (sym u ∙ z) in rw f
 
-    pub next_recovery : (d : ℕ) → i + 1 < n → d ≡ code_at t (i + 1) → eqb d 7 ≡ recovers_next t i
-    unfolding recovers_next
-    next_recovery d h q = rw (← e, eq-eqb c 6 z, ← k, lt-ltb (suc i) n (omega arith), q, add-one i)
+    module _ (z : x ≡ false) (n : ℕ) (v : n ≡ call_count t) where
+      is_cut : eqb (code_at t i) 6 ≡ true
+      is_cut = sym cut_is ∙ not-false (sameb the_type k Cut) (sym u ∙ z)
+
+      pub next_last : n ≤ i + 1 → ltb (i + 1) n ≡ recovers_next t i
+      unfolding recovers_next
+      next_last h = let l : ltb (suc i) n ≡ false = le-ltb (suc i) n (omega arith) in rw (is_cut, ← v, add-one i, l)
+
+      pub next_recovery : (j : Kind) (y : Bool) → i + 1 < n → j ≡ kind_at t (i + 1) → y ≡ sameb the_type j Recover → y ≡ recovers_next t i
+      unfolding recovers_next kind_at
+      next_recovery j y h q w =
+          let l : ltb (suc i) n ≡ true = lt-ltb (suc i) n (omega arith) in
+          let a : y ≡ eqb (code_at t (suc i)) 7 = rw (add-one i) at (w ∙ ap (λ (x : Kind). sameb the_type x Recover) q ∙ same_recover (code_at t (i + 1))) in
+          rw (is_cut, ← v, l) a
 
 module _ (t : List ℕ) (i c n : ℕ) (e : c ≡ code_at t i) (q : n ≡ number_at t i) (r : Bool) (u : r ≡ number_ok c n) where
   pub call_number : not r ≡ true → false ≡ call_ok t i
@@ -164,13 +254,13 @@ module _ (t : List ℕ) (i c n : ℕ) (e : c ≡ code_at t i) (q : n ≡ number_
   call_number h = rw (← e, ← q, ← u, not-true r h)
 
   module _ (h : not r ≡ false) (s : Bool) (v : s ≡ formats_once t i) where
-    pub call_first : not s ≡ true → false ≡ call_ok t i
+    pub call_first : s ≡ false → s ≡ call_ok t i
     unfolding call_ok every
-    call_first g = rw (← e, ← q, ← u, not-false r h, ← v, not-true s g)
+    call_first g = rw (← e, ← q, ← u, not-false r h, ← v, g)
 
-    pub call_next : (x : Bool) → not s ≡ false → x ≡ recovers_next t i → x ≡ call_ok t i
+    pub call_next : (x : Bool) → s ≡ true → x ≡ recovers_next t i → x ≡ call_ok t i
     unfolding call_ok every
-    call_next x g y = rw (← e, ← q, ← u, not-false r h, ← v, not-false s g, ← y) (whole x)
+    call_next x g y = rw (← e, ← q, ← u, not-false r h, ← v, g, ← y) (whole x)
 
 -- the loop over the calls
 module _ (t : List ℕ) (n : ℕ) (e : n ≡ call_count t) where
@@ -195,47 +285,27 @@ module _ (n : ℕ) where
   unfolding pattern_size
   pattern_block h = rw (le-ltb n 256 h)
 
-module _ (code n : ℕ) (r : Bool) (e : r ≡ has_group code) where
-  pub size_group : r ≡ true → 10 * n ≡ data_size code n
-  unfolding data_size
-  size_group h = rw (← e, h)
+-- the bytes of n entries, beside a test of n itself
+pub fit_group : (n room : ℕ) → leb n (room / 10) ≡ leb (10 * n) room
+fit_group n room =
+    by_cases (leb n (room / 10))
+    (λ q. let k = leb-true n (room / 10) q in q ∙ sym (le-leb (10 * n) room (omega arith)))
+    (λ q. let k = leb-false n (room / 10) q in q ∙ sym (lt-leb (10 * n) room (omega arith)))
 
-  module _ (h : r ≡ false) where
-    pub size_cut : (p : ℕ) → code ≡ 6 → p ≡ pattern_size n → p ≡ data_size code n
-    unfolding data_size
-    size_cut p z q = rw (← e, h, eq-eqb code 6 z) q
+-- what is asked of kind and number is asked of a call
+module _ (t : List ℕ) (i n : ℕ) (k : Kind) (e : k ≡ kind_at t i) (q : n ≡ number_at t i) where
+  pub size_same : data_size (code_of k) n ≡ data_size (code_at t i) (number_at t i)
+  unfolding kind_at
+  size_same = rw (e, q) (kind_size (number_at t i) (code_at t i))
 
-    pub size_none : (code ≡ 6 → ⊥) → 0 ≡ data_size code n
-    unfolding data_size
-    size_none z = rw (← e, h, ne_eqb code 6 z)
+  pub size_here : HasCall t i → data_size (code_of k) n ≤ 65536
+  size_here r = rw size_same (omega (arith, r.bytes, r.lists.long))
 
-  pub fit_group : (room : ℕ) → r ≡ true → leb n (room / 10) ≡ leb (data_size code n) room
-  fit_group room h =
-      let z : data_size code n ≡ 10 * n = sym (size_group h) in
-      by_cases (leb n (room / 10))
-      (λ q. let k = leb-true n (room / 10) q in q ∙ sym (le-leb (data_size code n) room (omega arith)))
-      (λ q. let k = leb-false n (room / 10) q in q ∙ sym (lt-leb (data_size code n) room (omega arith)))
+  pub size_is : (x : ℕ) → x ≡ data_size (code_of k) n → x ≡ data_size (code_at t i) (number_at t i)
+  size_is x u = u ∙ size_same
 
-  pub fit_cut : (room p : ℕ) → r ≡ false → code ≡ 6 → p ≡ pattern_size n → leb p room ≡ leb (data_size code n) room
-  fit_cut room p h z q = ap (λ (x : ℕ). leb x room) (size_cut h p z q)
-
-  pub fit_none : (room : ℕ) → r ≡ false → (code ≡ 6 → ⊥) → true ≡ leb (data_size code n) room
-  fit_none room h z = let s = size_none h z in sym (le-leb (data_size code n) room (omega arith))
-
-  -- where a number of entries overflows no product
-  pub group_few : r ≡ true → data_size code n ≤ 65536 → Fits w64 (10 * n)
-  group_few h k = let z : data_size code n ≡ 10 * n = sym (size_group h) in Fits-under w64 (10 * n) 65537 (omega arith) tt
-
-pub size_here : (t : List ℕ) (i c n : ℕ) → c ≡ code_at t i → n ≡ number_at t i → HasCall t i → data_size c n ≤ 65536
-size_here t i c n e q r = rw (e, q) (omega (arith, r.bytes, r.lists.long))
-
--- what is asked of code and number is asked of a call
-pub fit_here : (t : List ℕ) (i k c n : ℕ) (r : Bool) → c ≡ code_at t i → n ≡ number_at t i → r ≡ leb (data_size c n) (length t - k)
-    → r ≡ leb (data_size (code_at t i) (number_at t i)) (length t - k)
-fit_here t i k c n r e q u = rw (e, q) at u
-
-pub size_is : (t : List ℕ) (i c n x : ℕ) → c ≡ code_at t i → n ≡ number_at t i → x ≡ data_size c n → x ≡ data_size (code_at t i) (number_at t i)
-size_is t i c n x e q u = rw (e, q) at u
+  pub fit_here : (at : ℕ) (r : Bool) → r ≡ leb (data_size (code_of k) n) (length t - at) → r ≡ leb (data_size (code_at t i) (number_at t i)) (length t - at)
+  fit_here at r u = u ∙ ap (λ (x : ℕ). leb x (length t - at)) size_same
 
 pub pattern_is : (t : List ℕ) (k n p : ℕ) → p ≡ pattern_size n → take (k + p - k) (drop k t) ≡ part k (pattern_size n) t
 pattern_is t k n p e = let z : k + p - k ≡ pattern_size n = omega arith in rw z
@@ -305,13 +375,13 @@ module _ (t : List ℕ) (r : Bool) (e : r ≡ has_lists t) where
   formed_lists h = rw (← e, not-true r h)
 
   module _ (h : not r ≡ false) (s : Bool) (u : s ≡ all_below (call_count t) (call_ok t)) where
-    pub formed_calls : not s ≡ true → false ≡ well_formed t
+    pub formed_calls : s ≡ false → s ≡ well_formed t
     unfolding well_formed every
-    formed_calls g = rw (← e, not-false r h, ← u, not-true s g)
+    formed_calls g = rw (← e, not-false r h, ← u, g)
 
-    pub formed_end : (x : Bool) → not s ≡ false → x ≡ eqb (length t) (data_start t (call_count t)) → x ≡ well_formed t
+    pub formed_end : (x : Bool) → s ≡ true → x ≡ eqb (length t) (data_start t (call_count t)) → x ≡ well_formed t
     unfolding well_formed every
-    formed_end x g y = rw (← e, not-false r h, ← u, not-false s g, ← y) (whole x)
+    formed_end x g y = rw (← e, not-false r h, ← u, g, ← y) (whole x)
 
 -- ---- the loops that read the numbers of a group
 

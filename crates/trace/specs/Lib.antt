@@ -1,3 +1,4 @@
 pub mod Trace
 pub mod Read
 pub mod Calls
+pub mod Kinds

@@ -4,36 +4,98 @@
 ghost use Rattle.std.specs.Prelude.{◌≡◌, ◌+◌, ◌-◌, ◌*◌, ◌≤◌, ◌<◌, min, leb, eqb, length, take};
 ghost use Rattle.lists.specs.Lists.{all_below};
 ghost use Rattle.codec.specs.Codec.{part};
-ghost use Rattle.trace.specs.Trace.{call_count, code_at, number_at, has_group, without_number, number_ok, pattern_size, data_size, data_start};
+ghost use Rattle.trace.specs.Trace.{call_count, code_at, number_at, has_group, number_ok, pattern_size, data_size, data_start};
 ghost use Rattle.trace.specs.Trace.{formats_once, recovers_next, call_ok, has_lists, well_formed, numbers_at};
 ghost use Rattle.trace.specs.Read.{Listed, HasCall};
+ghost use Rattle.trace.specs.Kinds.{code_of, Decodes, kind_at};
 
-// Codes of calls. Here formatting, with the number of blocks.
-pub const FORMAT: u64 = 1;
+// What a call is. Beside a format a trace has the number of its blocks, beside an append and a buffered group that of the entries, beside a
+// collection the block, and beside a cut the page, or 256 + block, that the step cut short touches.
+#[derive(Clone, Copy, Debug, PartialEq, Eq)]
+pub enum Kind {
+    Format,
+    Append,
+    Commit,
+    Collect,
+    Step,
+    Cut,
+    Recover,
+    Buffer,
+    Flush,
+}
 
-// An append, with the number of entries.
-pub const APPEND: u64 = 2;
+// A code that stands for no call.
+#[derive(Clone, Copy, Debug, PartialEq, Eq)]
+pub struct UnknownCode(pub u64);
 
-// A commit.
-pub const COMMIT: u64 = 3;
+impl TryFrom<u64> for Kind {
+    type Error = UnknownCode;
 
-// A collection, with the block.
-pub const COLLECT: u64 = 4;
+    ghost try_from_gives = { Decodes };
 
-// A step.
-pub const STEP: u64 = 5;
+    fn try_from(code: u64) -> Result<Self, UnknownCode> {
+        match code {
+            1 => Ok(Kind::Format),
+            2 => Ok(Kind::Append),
+            3 => Ok(Kind::Commit),
+            4 => Ok(Kind::Collect),
+            5 => Ok(Kind::Step),
+            6 => Ok(Kind::Cut),
+            7 => Ok(Kind::Recover),
+            8 => Ok(Kind::Buffer),
+            9 => Ok(Kind::Flush),
+            _ => Err(UnknownCode(code)),
+        }
+    }
+}
 
-// A step cut short, with the page, or 256 + block.
-pub const CUT: u64 = 6;
+impl Kind {
+    // Whether a group stands beside it.
+    #[tactic(auto, unfolding(crate::specs::Trace::has_group))]
+    pub fn has_group(self) -> bool
+        ensures { result ≡ has_group (code_of self) }
+    {
+        matches!(self, Kind::Append | Kind::Buffer)
+    }
 
-// A recovery.
-pub const RECOVER: u64 = 7;
+    // Whether this number is allowed beside it.
+    #[tactic(auto, unfolding(crate::specs::Trace::has_group, crate::specs::Trace::without_number, crate::specs::Trace::number_ok))]
+    fn number_ok(self, n: u64) -> bool
+        ensures { result ≡ number_ok (code_of self) n }
+    {
+        match self {
+            Kind::Format => 4 <= n && n <= 16,
+            Kind::Cut => n <= 271,
+            Kind::Append | Kind::Collect | Kind::Buffer => true,
+            Kind::Commit | Kind::Step | Kind::Recover | Kind::Flush => n == 0,
+        }
+    }
 
-// A group put into the write buffer, with the number of entries.
-pub const BUFFER: u64 = 8;
+    // Whether its bytes, with this number beside it, are not more than `room`.
+    #[tactic(auto, using(crate::proofs::Laws::fit_group), unfolding(crate::specs::Trace::has_group, crate::specs::Trace::data_size))]
+    fn fits_in(self, n: u64, room: usize) -> bool
+        ensures { result ≡ leb (data_size (code_of self) n) room }
+    {
+        match self {
+            Kind::Append | Kind::Buffer => n <= ((room / 10) as u64),
+            Kind::Cut => pattern_size(n) <= room,
+            _ => true,
+        }
+    }
 
-// A flush.
-pub const FLUSH: u64 = 9;
+    // How many there are.
+    #[tactic(auto, unfolding(crate::specs::Trace::has_group, crate::specs::Trace::data_size))]
+    fn size(self, n: u64) -> usize
+        requires { data_size (code_of self) n ≤ 65536 }
+        ensures { result ≡ data_size (code_of self) n }
+    {
+        match self {
+            Kind::Append | Kind::Buffer => 10 * (n as usize),
+            Kind::Cut => pattern_size(n),
+            _ => 0,
+        }
+    }
+}
 
 // The most bytes of a trace.
 pub const MOST: usize = 65536;
@@ -46,17 +108,11 @@ fn has_lists(t: &[u8]) -> bool
     ensures { result ≡ has_lists t.now }
 {
     let n = t.len();
-    if MOST < n {
-        return false;
-    }
-    if n < 8 {
+    if MOST < n || n < 8 {
         return false;
     }
     let calls = codec::le64(t, 0);
-    if calls > (((n - 8) / 16) as u64) {
-        return false;
-    }
-    0 < calls
+    0 < calls && calls <= (((n - 8) / 16) as u64)
 }
 
 // The number of calls.
@@ -67,12 +123,20 @@ pub fn count(t: &[u8]) -> usize
     codec::le64(t, 0) as usize
 }
 
-// The code of call i.
-pub fn code(t: &[u8], i: usize) -> u64
+// What call i is, or its code, if it stands for no call.
+pub fn read_kind(t: &[u8], i: usize) -> Result<Kind, UnknownCode>
     requires { Listed t.now × (i < call_count t.now) }
-    ensures { result ≡ code_at t.now i }
+    ensures { Decodes (code_at t.now i) result }
 {
-    codec::le64(t, 8 + 8 * i)
+    Kind::try_from(codec::le64(t, 8 + 8 * i))
+}
+
+// What call i is; in a trace of the form each code stands for a call, and any other is taken for that of a flush.
+pub fn kind_at(t: &[u8], i: usize) -> Kind
+    requires { Listed t.now × (i < call_count t.now) }
+    ensures { result ≡ kind_at t.now i }
+{
+    read_kind(t, i).unwrap_or(Kind::Flush)
 }
 
 // Its number.
@@ -84,67 +148,12 @@ pub fn number(t: &[u8], i: usize) -> u64
     codec::le64(t, 8 + 8 * calls + 8 * i)
 }
 
-// Whether a group stands beside a call with this code.
-pub fn has_group(code: u64) -> bool
-    ensures { result ≡ has_group code }
-{
-    if code == APPEND {
-        return true;
-    }
-    code == BUFFER
-}
-
-// Whether none stands beside it, and no number.
-fn without_number(code: u64) -> bool
-    ensures { result ≡ without_number code }
-{
-    if code == COMMIT {
-        return true;
-    }
-    if code == STEP {
-        return true;
-    }
-    if code == RECOVER {
-        return true;
-    }
-    code == FLUSH
-}
-
-// Whether this is a code, and the number allowed beside it.
-fn number_ok(code: u64, n: u64) -> bool
-    ensures { result ≡ number_ok code n }
-{
-    if code == FORMAT {
-        if n < 4 {
-            return false;
-        }
-        return n <= 16;
-    }
-    if code == CUT {
-        return n <= 271;
-    }
-    if has_group(code) {
-        return true;
-    }
-    if code == COLLECT {
-        return true;
-    }
-    if without_number(code) {
-        return n == 0;
-    }
-    false
-}
-
 // Whether call i is a format exactly where it is the first.
 fn formats_once(t: &[u8], i: usize) -> bool
     requires { Listed t.now × (i < call_count t.now) }
     ensures { result ≡ formats_once t.now i }
 {
-    let c = code(t, i);
-    if i == 0 {
-        return c == FORMAT;
-    }
-    c != FORMAT
+    (kind_at(t, i) == Kind::Format) == (i == 0)
 }
 
 // Whether a recovery comes next where call i is a cut.
@@ -152,13 +161,10 @@ fn recovers_next(t: &[u8], i: usize) -> bool
     requires { Listed t.now × (i < call_count t.now) }
     ensures { result ≡ recovers_next t.now i }
 {
-    if code(t, i) != CUT {
+    if kind_at(t, i) != Kind::Cut {
         return true;
     }
-    if count(t) <= i + 1 {
-        return false;
-    }
-    code(t, i + 1) == RECOVER
+    i + 1 < count(t) && kind_at(t, i + 1) == Kind::Recover
 }
 
 // Whether call i is as the form asks.
@@ -166,13 +172,13 @@ fn call_ok(t: &[u8], i: usize) -> bool
     requires { Listed t.now × (i < call_count t.now) }
     ensures { result ≡ call_ok t.now i }
 {
-    if !number_ok(code(t, i), number(t, i)) {
+    let Ok(kind) = read_kind(t, i) else {
+        return false;
+    };
+    if !kind.number_ok(number(t, i)) {
         return false;
     }
-    if !formats_once(t, i) {
-        return false;
-    }
-    recovers_next(t, i)
+    formats_once(t, i) && recovers_next(t, i)
 }
 
 // Whether each call is.
@@ -180,13 +186,10 @@ fn calls_ok(t: &[u8]) -> bool
     requires { Listed t.now }
     ensures { result ≡ all_below (call_count t.now) (call_ok t.now) }
 {
-    let calls = count(t);
-    let mut i: usize = 0;
-    while i < calls {
+    for i in 0..count(t) {
         if !call_ok(t, i) {
             return false;
         }
-        i += 1;
     }
     true
 }
@@ -195,46 +198,7 @@ fn calls_ok(t: &[u8]) -> bool
 pub fn pattern_size(n: u64) -> usize
     ensures { result ≡ pattern_size n }
 {
-    if n < 256 {
-        return 256;
-    }
-    4096
-}
-
-// Whether the bytes of a call with this code and number are not more than `room`.
-fn fit_in(code: u64, n: u64, room: usize) -> bool
-    ensures { result ≡ leb (data_size code n) room }
-{
-    if has_group(code) {
-        return n <= ((room / 10) as u64);
-    }
-    if code == CUT {
-        return pattern_size(n) <= room;
-    }
-    true
-}
-
-// How many there are.
-fn size_of(code: u64, n: u64) -> usize
-    requires { data_size code n ≤ 65536 }
-    ensures { result ≡ data_size code n }
-{
-    if has_group(code) {
-        return 10 * (n as usize);
-    }
-    if code == CUT {
-        return pattern_size(n);
-    }
-    0
-}
-
-// Whether the bytes of call i are there where they start at byte k.
-fn data_fits(t: &[u8], i: usize, k: usize) -> bool
-    requires { Listed t.now × (i < call_count t.now) × (k ≤ length t.now) }
-    ensures { result ≡ leb (data_size (code_at t.now i) (number_at t.now i)) (length t.now - k) }
-{
-    let room = t.len() - k;
-    fit_in(code(t, i), number(t, i), room)
+    if n < 256 { 256 } else { 4096 }
 }
 
 // How many bytes follow the lists for call i.
@@ -242,7 +206,7 @@ pub fn data_size(t: &[u8], i: usize) -> usize
     requires { HasCall t.now i }
     ensures { result ≡ data_size (code_at t.now i) (number_at t.now i) }
 {
-    size_of(code(t, i), number(t, i))
+    kind_at(t, i).size(number(t, i))
 }
 
 // Whether the bytes of all calls follow the lists, and nothing more.
@@ -252,13 +216,11 @@ fn ends_with_data(t: &[u8]) -> bool
 {
     let calls = count(t);
     let mut at = 8 + 16 * calls;
-    let mut i: usize = 0;
-    while i < calls {
-        if !data_fits(t, i, at) {
+    for i in 0..calls {
+        if !kind_at(t, i).fits_in(number(t, i), t.len() - at) {
             return false;
         }
         at += data_size(t, i);
-        i += 1;
     }
     t.len() == at
 }
@@ -270,20 +232,14 @@ pub fn is_well_formed(t: &[u8]) -> bool
     if !has_lists(t) {
         return false;
     }
-    if !calls_ok(t) {
-        return false;
-    }
-    ends_with_data(t)
+    calls_ok(t) && ends_with_data(t)
 }
 
 // How many of n entries are read.
 pub fn entries(n: u64) -> usize
     ensures { result ≡ min n 97 }
 {
-    if n < (READ as u64) {
-        return n as usize;
-    }
-    READ
+    n.min(READ as u64) as usize
 }
 
 // The keys of n entries, from byte k on.
@@ -292,24 +248,21 @@ pub fn keys(t: &[u8], k: usize, n: usize) -> [u16; 97]
     ensures { (length result ≡ 97) × (take n result ≡ numbers_at 2 n k t.now) }
 {
     let mut all = [0u16; 97];
-    let mut i: usize = 0;
-    while i < n {
+    for i in 0..n {
         all[i] = codec::le16(t, k + 2 * i);
-        i += 1;
     }
     all
 }
 
 // The words of n entries, from byte k on.
+// Kept: a twin of the loop over keys, since one loop over a closure that reads a number would be no shorter.
 pub fn words(t: &[u8], k: usize, n: usize) -> [u64; 97]
     requires { (n ≤ 97) × (k + 8 * n ≤ length t.now) }
     ensures { (length result ≡ 97) × (take n result ≡ numbers_at 8 n k t.now) }
 {
     let mut all = [0u64; 97];
-    let mut i: usize = 0;
-    while i < n {
+    for i in 0..n {
         all[i] = codec::le64(t, k + 8 * i);
-        i += 1;
     }
     all
 }

@@ -7,6 +7,10 @@ use lib.Dec.{ltb}
 use lib.ListN.{length, take}
 use Rattle.lists.proofs.Laws.{by_cases, length_taken}
 use Rattle.trace.specs.Trace.{pattern_size}
+use Rattle.cut_patterns.specs.Struck.{most_bytes}
+use Rattle.player.specs.declared.RecordedCall.{RecordedCall}
+use Rattle.player.specs.declared.RecordedCall.TheVariants as call
+use Rattle.player.specs.Played.{CutFits}
 use Rattle.trials.specs.declared.Trial.{Trial}
 use Rattle.trials.specs.Played.{Played}
 
@@ -37,3 +41,15 @@ play_none m calls t e = record { long = refl; kept = λ z. refl; answered = λ z
 
 pub play_ends : (m₀ calls m : List ℕ) (t : Trial) (i : ℕ) → length calls ≤ i → Playing m₀ calls m t.number i → Played m₀ calls t m
 play_ends m₀ calls m t i h p = record { long = p.long; kept = λ z. p.kept (omega (arith, z)); answered = λ z. p.answered (omega (arith, z)) }
+
+-- on a medium that is not too long every call may be played
+pub fits : (c : RecordedCall) (m : List ℕ) → length m ≤ most_bytes → CutFits c m
+fits (call.Format n) m h = tt
+fits (call.Append ks ws) m h = tt
+fits call.Commit m h = tt
+fits (call.Collect b) m h = tt
+fits call.Step m h = tt
+fits (call.Cut name pattern) m h = h
+fits call.Recover m h = tt
+fits (call.Buffer ks ws) m h = tt
+fits call.Flush m h = tt

@@ -6,35 +6,35 @@ ghost use Rattle.std.specs.Prelude.{◌≡◌, ◌<◌, ◌≤◌, length};
 ghost use Rattle.page.specs.Buffer.{buffer_bytes};
 ghost use Rattle.trials.specs.Played.{Played};
 
-use player::{LastState, Reply};
+use player::{RecordedCall, Reply, Told};
 use state::State;
 
 // Codes of calls. The last digit of a code is the call, as in a trace. Here formatting begins.
-pub const FORMAT: u64 = trace::FORMAT;
+pub const FORMAT: u64 = 1;
 
 // APPEND, n, n keys, n words: an append begins, of 97 entries at most.
-pub const APPEND: u64 = trace::APPEND;
+pub const APPEND: u64 = 2;
 
 // A commit begins.
-pub const COMMIT: u64 = trace::COMMIT;
+pub const COMMIT: u64 = 3;
 
 // COLLECT, block: a collection begins.
-pub const COLLECT: u64 = trace::COLLECT;
+pub const COLLECT: u64 = 4;
 
 // One step of the pending operation, unless the call before it was refused.
-pub const STEP: u64 = trace::STEP;
+pub const STEP: u64 = 5;
 
 // CUT, page or 256 + block: the step due is cut, with a pattern of no 1 bits.
-pub const CUT: u64 = trace::CUT;
+pub const CUT: u64 = 6;
 
 // Recovery: its state takes the place of the last.
-pub const RECOVER: u64 = trace::RECOVER;
+pub const RECOVER: u64 = 7;
 
 // BUFFER, n, n keys, n words: a group is put into the write buffer, of 97 entries at most.
-pub const BUFFER: u64 = trace::BUFFER;
+pub const BUFFER: u64 = 8;
 
 // A flush begins.
-pub const FLUSH: u64 = trace::FLUSH;
+pub const FLUSH: u64 = 9;
 
 // A code that is 10 more is the call with its steps until the operation is over, 20 at most, for media of 16 blocks at most: their formatting takes 17. Here formatting.
 pub const FORMATTED: u64 = 11;
@@ -66,21 +66,17 @@ pub const BUFFER_VALVES: u64 = 48;
 // An append of them, with its steps.
 pub const SET: u64 = 52;
 
-// How the last call of a list went: the number that refused it, or 0; the steps it tried; whether a cut lost the state; and the state.
+// How the last call of a list went: the number that refused it, or 0; the steps it tried; and the state, unless a cut lost it.
 #[derive(Clone, Copy)]
 pub struct Trial {
     pub number: u8,
     pub steps: usize,
-    pub lost: bool,
-    pub state: State,
+    pub state: Option<State>,
 }
 
 // The number at place i of a list, 0 past its end.
 fn at(calls: &[u64], i: usize) -> u64 {
-    if i < calls.len() {
-        return calls[i];
-    }
-    0
+    calls.get(i).copied().unwrap_or(0)
 }
 
 // How many numbers a call has after its code, of which n is the first.
@@ -130,10 +126,8 @@ fn keys(call: &[u64]) -> [u16; 97]
     ensures { length result ≡ 97 }
 {
     let mut all = [0u16; 97];
-    let mut i: usize = 0;
-    while i < 97 {
+    for i in 0..97 {
         all[i] = key(call, i);
-        i += 1;
     }
     all
 }
@@ -144,65 +138,67 @@ fn words(call: &[u64], n: usize) -> [u64; 97]
     ensures { length result ≡ 97 }
 {
     let mut all = [0u64; 97];
-    let mut i: usize = 0;
-    while i < 97 {
+    for i in 0..97 {
         all[i] = at(call, 2 + n + i);
-        i += 1;
     }
     all
 }
 
 // How a call went, and after how many steps.
 fn told(r: Reply, steps: usize) -> Trial {
-    let last = r.last;
-    let state = last.state;
+    let number = match r.told {
+        Told::Refused(number) => number,
+        _ => 0,
+    };
     Trial {
-        number: r.number,
-        steps: steps,
-        lost: last.lost,
-        state: state,
+        number,
+        steps,
+        state: r.last,
     }
 }
 
-// The state that the calls so far left.
-fn last(t: Trial) -> LastState {
-    let state = t.state;
-    LastState {
-        lost: t.lost,
-        state: state,
-    }
+// A call played.
+fn played(m: &mut [u8], b: &mut [u8], t: Trial, c: RecordedCall, steps: usize) -> Trial
+    requires { (length m.old ≤ 65536) × (length b.old ≡ buffer_bytes) }
+{
+    told(player::call(m, b, t.state, c), steps)
 }
 
 // A call with a number, and with a group of n entries.
 fn called(m: &mut [u8], b: &mut [u8], t: Trial, call: &[u64], n: usize) -> Trial
     requires { (length m.old ≤ 65536) × (length b.old ≡ buffer_bytes) × (n ≤ 97) }
 {
-    let code = at(call, 0) % 10;
-    let number = at(call, 1);
-    let keys = keys(call);
-    let words = words(call, n);
-    let r = player::call(m, b, last(t), code, number, &keys[..n], &words[..n], &[]);
-    told(r, 0)
+    let all_keys = keys(call);
+    let all_words = words(call, n);
+    let keys = &all_keys[..n];
+    let words = &all_words[..n];
+    let c = match at(call, 0) % 10 {
+        FORMAT => RecordedCall::Format(at(call, 1)),
+        APPEND => RecordedCall::Append { keys, words },
+        COMMIT => RecordedCall::Commit,
+        COLLECT => RecordedCall::Collect(at(call, 1)),
+        RECOVER => RecordedCall::Recover,
+        BUFFER => RecordedCall::Buffer { keys, words },
+        _ => RecordedCall::Flush,
+    };
+    played(m, b, t, c, 0)
 }
 
 // A cut of what is named.
 fn cut(m: &mut [u8], b: &mut [u8], t: Trial, name: u64) -> Trial
     requires { (length m.old ≤ 65536) × (length b.old ≡ buffer_bytes) }
 {
-    let size = trace::pattern_size(name);
-    let pattern = [0u8; 4096];
-    let r = player::call(m, b, last(t), CUT, name, &[], &[], &pattern[..size]);
-    told(r, 0)
+    let all = [0u8; 4096];
+    let pattern = &all[..trace::pattern_size(name)];
+    played(m, b, t, RecordedCall::Cut { name, pattern }, 0)
 }
 
 // Nothing but the state that the calls so far left.
 fn rest(t: Trial) -> Trial {
-    let state = t.state;
     Trial {
         number: t.number,
         steps: 0,
-        lost: t.lost,
-        state: state,
+        state: t.state,
     }
 }
 
@@ -238,18 +234,21 @@ fn steps(call: &[u64]) -> usize
 fn go_on(m: &mut [u8], b: &mut [u8], t: Trial, n: usize) -> Trial
     requires { (length m.old ≤ 65536) × (length b.old ≡ buffer_bytes) × (n < 20) }
 {
-    let steps = n + 1;
     if t.number != 0 {
         return t;
     }
-    let s = t.state;
-    if s.operation == state::IDLE {
-        if 0 < n {
-            return t;
-        }
+    if 0 < n && is_idle(t.state) {
+        return t;
     }
-    let r = player::call(m, b, last(t), STEP, 0, &[], &[], &[]);
-    told(r, steps)
+    played(m, b, t, RecordedCall::Step, n + 1)
+}
+
+// Whether a state has no operation pending.
+fn is_idle(last: Option<State>) -> bool {
+    let Some(s) = last else {
+        return false;
+    };
+    s.operation == state::IDLE
 }
 
 // At most so many steps.
@@ -257,10 +256,8 @@ fn finish(m: &mut [u8], b: &mut [u8], t: Trial, most: usize) -> Trial
     requires { (length m.old ≤ 65536) × (length b.old ≡ buffer_bytes) × (most ≤ 20) }
 {
     let mut u = t;
-    let mut n: usize = 0;
-    while n < most {
+    for n in 0..most {
         u = go_on(m, b, u, n);
-        n += 1;
     }
     u
 }
@@ -283,16 +280,10 @@ fn page(call: &[u64]) -> [u8; 256] {
 fn damage(m: &mut [u8], call: &[u64]) {
     let code = at(call, 0);
     let i = at(call, 1) as usize;
-    if code == BYTE {
-        if i < m.len() {
-            m[i] = (at(call, 2) % 256) as u8;
-        }
-        return;
+    if code == BYTE && i < m.len() {
+        m[i] = (at(call, 2) % 256) as u8;
     }
-    if code != PUT {
-        return;
-    }
-    if i < m.len() / 256 {
+    if code == PUT && i < m.len() / 256 {
         flash::program(m, i, page(call));
     }
 }
@@ -310,14 +301,10 @@ fn made(m: &mut [u8], b: &mut [u8], t: Trial, call: &[u64]) -> Trial
 fn nothing() -> Trial
     ensures { result.number ≡ 1 }
 {
-    let mut b = [255u8; 256];
-    let last = player::start(&mut [], &mut b);
-    let state = last.state;
     Trial {
         number: 1,
         steps: 0,
-        lost: last.lost,
-        state: state,
+        state: None,
     }
 }
 
@@ -327,10 +314,7 @@ pub fn play_with(m: &mut [u8], b: &mut [u8], calls: &[u64]) -> Trial
     ensures { Played m.old calls.now result m.new }
 {
     let mut t = nothing();
-    if player::BYTES < m.len() {
-        return t;
-    }
-    if b.len() != 256 {
+    if player::BYTES < m.len() || b.len() != 256 {
         return t;
     }
     let mut i: usize = 0;
@@ -356,10 +340,8 @@ pub fn groups() -> [u64; 145]
 {
     let group = [SET, 1, 5];
     let mut all = [FORMATTED; 145];
-    let mut i: usize = 1;
-    while i < 145 {
+    for i in 1..145 {
         all[i] = group[(i - 1) % 3];
-        i += 1;
     }
     all
 }

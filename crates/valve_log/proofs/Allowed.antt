@@ -2,7 +2,7 @@
 -- state, and with the state that recovery gives nothing is under way or buffered.
 use mathlib.Core.Path.{◌≡◌, refl}
 use mathlib.Core.Bool.{true}
-use mathlib.Core.Option.{Option, none, some}
+use Rattle.std.proofs.Common.{Option, None, Some}
 use mathlib.Core.List.{List, [], ◌∷◌, ◌++◌}
 use Prim.Native.Nat.{ℕ, zero, suc, max}
 use lib.ListN.{length}
@@ -39,8 +39,8 @@ pub record Allowed (h : History) : Type 0 where
 
 -- where there is a state
 unfoldable pub StateAllowed : Option Held → History → Type 0
-StateAllowed none h = Unit {0}
-StateAllowed (some s) h = Allowed h
+StateAllowed None h = Unit {0}
+StateAllowed (Some s) h = Allowed h
 
 none_allowed : entries_allowed [] ≡ true
 unfolding entries_allowed all
@@ -69,18 +69,18 @@ Keeps h t = StateAllowed t.after.state (tell h t.told)
 
 module _ (m : List ℕ) (s : Held) (b : List ℕ) (h : History) (A : Allowed h) where
   call_allowed : (t : Told) (cs : List Need) (s' : Held) → (every (tests cs) ≡ true → Allowed (tell h t))
-      → Keeps h (called (world m (some s) b) t (checked cs s'))
+      → Keeps h (called (world m (Some s) b) t (checked cs s'))
   call_allowed t cs s' f =
-      checked_cases (λ (r : Answer Held). Keeps h (called (world m (some s) b) t r)) cs (gives s')
+      checked_cases (λ (r : Answer Held). Keeps h (called (world m (Some s) b) t r)) cs (gives s')
       (λ n. unfold called tell StateAllowed in A) (λ e. unfold called StateAllowed in f e)
 
   -- an operation begun that is no append
   begun_allowed : (t : Told) (cs : List Need) (s' : Held) (u : UnderWay) → tell h t ≡ history h.settings h.log u h.buffered
-      → appended_in u ≡ [] → Keeps h (called (world m (some s) b) t (checked cs s'))
+      → appended_in u ≡ [] → Keeps h (called (world m (Some s) b) t (checked cs s'))
   begun_allowed t cs s' u i e = call_allowed t cs s' (λ q. rw i (record { gathers = A.gathers; appends = rw e none_allowed }))
 
   append_allowed : (ks ws : List ℕ)
-      → Keeps h (called (world m (some s) b) (began_append (zip ks ws)) (append_of (length m) (views m) s b ks ws))
+      → Keeps h (called (world m (Some s) b) (began_append (zip ks ws)) (append_of (length m) (views m) s b ks ws))
   unfolding append_of tests tell appended_in
   append_allowed ks ws =
       call_allowed (began_append (zip ks ws)) (append_needs (length m) (views m) s b ks ws) (starting s (Pending.append (zip ks ws) []))
@@ -94,14 +94,14 @@ module _ (m : List ℕ) (s : Held) (b : List ℕ) (h : History) (A : Allowed h) 
         appends = A.appends;
       }
 
-  buffer_allowed : (ks ws : List ℕ) → Keeps h (filled (world m (some s) b) (put_in (zip ks ws)) (buffer_of (length m) (views m) s b ks ws))
+  buffer_allowed : (ks ws : List ℕ) → Keeps h (filled (world m (Some s) b) (put_in (zip ks ws)) (buffer_of (length m) (views m) s b ks ws))
   unfolding buffer_of tests
   buffer_allowed ks ws =
-      checked_cases (λ (r : Answer (List ℕ)). Keeps h (filled (world m (some s) b) (put_in (zip ks ws)) r))
+      checked_cases (λ (r : Answer (List ℕ)). Keeps h (filled (world m (Some s) b) (put_in (zip ks ws)) r))
       (buffer_needs (length m) (views m) s b ks ws) (gives (holding (buffered_in b ++ (zip ks ws ∷ []))))
       (λ n. unfold filled tell StateAllowed in A) (λ e. unfold filled StateAllowed in put_allowed (zip ks ws) (every_at 4 _ e))
 
-  stepped_allowed : (r : Answer Step) → Keeps h (stepped (world m (some s) b) r)
+  stepped_allowed : (r : Answer Step) → Keeps h (stepped (world m (Some s) b) r)
   unfolding stepped tell StateAllowed
   stepped_allowed (refused n) = A
   stepped_allowed (gives (Step.program p pg s finished)) = counted_allowed h h.under_way refl A
@@ -121,25 +121,25 @@ recovered_allowed w h (gives r) A = unfold StateAllowed in record { gathers = no
 happen_allowed : (m : List ℕ) (s : Option Held) (b : List ℕ) (h : History) (e : Event (world m s b)) → StateAllowed s h
     → Keeps h (happen (world m s b) e)
 unfolding happen with_state step_due
-happen_allowed m none b h (Event.append ks ws x y) A = unfold tell in A
-happen_allowed m (some s) b h (Event.append ks ws x y) A = append_allowed m s b h (unfold StateAllowed in A) ks ws
-happen_allowed m none b h Event.commit A = unfold tell in A
-happen_allowed m (some s) b h Event.commit A =
+happen_allowed m None b h (Event.append ks ws x y) A = unfold tell in A
+happen_allowed m (Some s) b h (Event.append ks ws x y) A = append_allowed m s b h (unfold StateAllowed in A) ks ws
+happen_allowed m None b h Event.commit A = unfold tell in A
+happen_allowed m (Some s) b h Event.commit A =
     unfold commit_of in
     begun_allowed m s b h (unfold StateAllowed in A) began_commit _ _ (committing (max 1 (pages_for (length h.settings)))) (unfold tell in refl)
     (unfold appended_in in refl)
-happen_allowed m none b h (Event.collect k) A = unfold tell in A
-happen_allowed m (some s) b h (Event.collect k) A =
+happen_allowed m None b h (Event.collect k) A = unfold tell in A
+happen_allowed m (Some s) b h (Event.collect k) A =
     unfold collect_of in
     begun_allowed m s b h (unfold StateAllowed in A) began_collect _ _ collecting (unfold tell in refl) (unfold appended_in in refl)
-happen_allowed m none b h (Event.buffer ks ws x y) A = unfold tell in A
-happen_allowed m (some s) b h (Event.buffer ks ws x y) A = buffer_allowed m s b h (unfold StateAllowed in A) ks ws
-happen_allowed m none b h Event.flush A = unfold tell in A
-happen_allowed m (some s) b h Event.flush A =
+happen_allowed m None b h (Event.buffer ks ws x y) A = unfold tell in A
+happen_allowed m (Some s) b h (Event.buffer ks ws x y) A = buffer_allowed m s b h (unfold StateAllowed in A) ks ws
+happen_allowed m None b h Event.flush A = unfold tell in A
+happen_allowed m (Some s) b h Event.flush A =
     unfold flush_of in
     begun_allowed m s b h (unfold StateAllowed in A) began_flush _ _ (flushing h.buffered 1) (unfold tell in refl) (unfold appended_in in refl)
-happen_allowed m none b h Event.step A = unfold stepped tell in A
-happen_allowed m (some s) b h Event.step A = stepped_allowed m s b h (unfold StateAllowed in A) (step_of (length m) (views m) s b)
+happen_allowed m None b h Event.step A = unfold stepped tell in A
+happen_allowed m (Some s) b h Event.step A = stepped_allowed m s b h (unfold StateAllowed in A) (step_of (length m) (views m) s b)
 happen_allowed m s b h Event.recover A = recovered_allowed (world m s b) h (Recovery.recover (length m) (views m)) A
 happen_allowed m s b h Event.read A = unfold tell in A
 happen_allowed m s b h Event.cut A = unfold StateAllowed in tt
@@ -147,8 +147,8 @@ happen_allowed m s b h (Event.cut_inside left c) A = cut_allowed (world m s b) h
 
 start_allowed : (s : Option Held) → StateAllowed s no_history
 unfolding StateAllowed appended_in
-start_allowed none = tt
-start_allowed (some s) = record { gathers = none_buffered; appends = none_allowed }
+start_allowed None = tt
+start_allowed (Some s) = record { gathers = none_buffered; appends = none_allowed }
 
 pub reached_allowed : (w : World) (h : History) → Reached w h → StateAllowed w.state h
 reached_allowed w h (Reached.start v F e) = start_allowed (happen v Event.step).after.state

@@ -1,7 +1,7 @@
 -- What each event does to the base that recovery finds: it rises where a commit counts, to a serial that the commit's pages began with, and else it stays.
 use mathlib.Core.Path.{◌≡◌, refl, sym, ap, subst, ◌∙◌}
 use mathlib.Core.Bool.{Bool, true, false, cond}
-use mathlib.Core.Option.{Option, none, some}
+use Rattle.std.proofs.Common.{Option, None, Some}
 use mathlib.Core.List.{List, [], ◌∷◌, ◌++◌}
 use Prim.Native.Nat.{ℕ, suc, ◌+◌, ◌-◌, ◌*◌, ◌≤◌, ◌<◌}
 use native.Mathlib.Omega.{arith}
@@ -88,7 +88,7 @@ goes_on : (n k left : ℕ) → left + k ≡ base_pages n → is_last k n ≡ fal
 unfolding is_last base_pages pages_for commit_ends_next
 goes_on n k left a e = let l : 24 * suc k < n = leb-false n (24 * suc k) e in let z : left ≡ suc (suc (left - 2)) = omega arith in rw z
 
-no_index : (gs : List Group) → gs ≡ [] → enter_pages (some []) (pages_of gs) ≡ some []
+no_index : (gs : List Group) → gs ≡ [] → enter_pages (Some []) (pages_of gs) ≡ Some []
 unfolding pages_of enter_pages
 no_index gs e = rw e
 
@@ -104,7 +104,7 @@ few_pages n l = omega arith
 -- a base's first serial is greater than that of the base before it: where its pages alone were the chain there would be no index, and no page yet
 greater : {v : List View} {log : List (List Entry)} {settings : List Setting} {b : ℕ} {ch : List Placed} {gs : List Group} {idx : List Place} → Sound v log settings b ch gs idx
     → (f k serial : ℕ) (ps : List ℕ) (pre : List Placed) → serial ≡ b + length ch → length ps ≡ k → f + k ≡ serial → ch ≡ pre ++ lay 2 idx 0 f ps
-    → groups_of (walk (between []) (lay 2 idx 0 f ps)) ≡ some [] → k < base_pages (length idx) → b < serial - k
+    → groups_of (walk (between []) (lay 2 idx 0 f ps)) ≡ Some [] → k < base_pages (length idx) → b < serial - k
 greater {b = b} {ch = ch} {gs = gs} {idx = idx} S f k serial ps [] ser n a split alone fewer =
     let g : gs ≡ [] = some_same (sym S.walks ∙ ap (λ (c : List Placed). groups_of (walk (between []) c)) split ∙ alone) in
     let i : idx ≡ [] = some_same (sym S.replays ∙ no_index gs g) in
@@ -148,14 +148,14 @@ module _ (v : List View) (s : Held) {log : List (List Entry)} {settings : List S
       commit_rises k left (rw indices a) q (greater S f k s.head.serial ps pre serials n c sp ag (rw indices at q))
   due_rises small pend u (in_collect {b = c}) q = collect_rises u c (live s.index c) (unfold commit_ends_next in refl)
 
-first_rises : (v : List View) (s : Held) (gs : List (List Entry)) (h : History) → Coupled v (some s) h → Awaited v s s.pending
+first_rises : (v : List View) (s : Held) (gs : List (List Entry)) (h : History) → Coupled v (Some s) h → Awaited v s s.pending
     → StepRises s h.under_way (erased_first v s (due v s gs s.pending))
 first_rises v s gs h c q =
     let A = alive_of c.memory in
     first_cases (StepRises s h.under_way) v s (due v s gs s.pending) (λ r. unfold StepRises erasing in refl)
     (λ r. due_rises v s c.medium A.serials A.bases A.indices gs s.pending h.under_way A.pends q)
 
-step_rises : (n : ℕ) (v : List View) (s : Held) (bs : List ℕ) (h : History) → Coupled v (some s) h → StepRises s h.under_way (step_of n v s bs)
+step_rises : (n : ℕ) (v : List View) (s : Held) (bs : List ℕ) (h : History) → Coupled v (Some s) h → StepRises s h.under_way (step_of n v s bs)
 unfolding step_of tests
 step_rises n v s bs h c =
     checked_cases (StepRises s h.under_way) _ _ (refused_rises s h.under_way)
@@ -163,7 +163,7 @@ step_rises n v s bs h c =
     first_rises v s (buffered_in bs) h c (awaited v s s.pending (pending_fit_lem v s (state_fit v s bs w))))
 
 -- and the step of the program as it was before Paper 8
-before_rises : (n : ℕ) (v : List View) (s : Held) (bs : List ℕ) (h : History) → Coupled v (some s) h
+before_rises : (n : ℕ) (v : List View) (s : Held) (bs : List ℕ) (h : History) → Coupled v (Some s) h
     → StepRises s h.under_way (step_before n v s bs)
 before_rises n v s bs h c =
     before_cases (StepRises s h.under_way) n v s bs (refused_rises s h.under_way) (λ F A. first_rises v s (buffered_in bs) h c A)
@@ -171,14 +171,14 @@ before_rises n v s bs h c =
 -- ---- the base that recovery finds
 
 -- with a state it is the state's
-base_held : {v : List View} {s : Held} {h : History} → Coupled v (some s) h → base v ≡ s.head.base
+base_held : {v : List View} {s : Held} {h : History} → Coupled v (Some s) h → base v ≡ s.head.base
 base_held c = base_is c.medium ∙ sym (alive_of c.memory).bases
 
 -- the next serial: one more than the greatest of the whole pages
 abbrev pub next_after : List View → ℕ
 next_after v = suc (serial_of (last_of no_page (sort (wholes 0 v))))
 
-next_held : {v : List View} {s : Held} {h : History} → Coupled v (some s) h → next_after v ≡ s.head.serial
+next_held : {v : List View} {s : Held} {h : History} → Coupled v (Some s) h → next_after v ≡ s.head.serial
 next_held c = greatest c.medium ∙ sym (alive_of c.memory).serials
 
 abbrev From : List ℕ → Bool → List ℕ → Type 0
@@ -187,7 +187,7 @@ From m c u = Rises c (base (views m)) (next_after (views m)) (base (views u))
 kept : (m u : List ℕ) (c : Bool) → c ≡ false → u ≡ m → From m c u
 kept m u c f e = stays _ _ _ _ f (ap (λ (l : List ℕ). base (views l)) e)
 
-module _ (m : List ℕ) (s : Held) (bs : List ℕ) (h : History) (U : Upheld (world m (some s) bs) h) where
+module _ (m : List ℕ) (s : Held) (bs : List ℕ) (h : History) (U : Upheld (world m (Some s) bs) h) where
   module _ (p : ℕ) (pg : Page) (s' : Held) (P : Programs (views m) s bs h p pg s') (R : Rises (commit_ends_next h.under_way) s.head.base s.head.serial s'.head.base) where
     program_rises : From m (commit_ends_next h.under_way) (programmed m p pg)
     program_rises = rw (base_held U.coupled, next_held U.coupled, program_views m p pg (there m s bs h U p pg s' P) P.fits_in, base_held P.after) R
@@ -198,7 +198,7 @@ module _ (m : List ℕ) (s : Held) (bs : List ℕ) (h : History) (U : Upheld (wo
     cut_program_rises left c true e = rw (same_true left (programmed m p pg) e) program_rises
     cut_program_rises left c false e = stays _ _ _ _ refl (base_is sound ∙ sym (base_is C.medium))
       where
-        C : Coupled (views m) (some s) h
+        C : Coupled (views m) (Some s) h
         C = U.coupled
 
         sound : Sound (views left) h.log h.settings C.b C.ch C.gs C.idx
@@ -214,14 +214,14 @@ module _ (m : List ℕ) (s : Held) (bs : List ℕ) (h : History) (U : Upheld (wo
   erase_stays b s' E e u c = base_held (E.after (views u) c) ∙ e ∙ sym (base_held U.coupled)
 
   stepped_rises : (st : Answer Step) → Good (views m) s bs h st → StepRises s h.under_way st
-      → From m (commit_counts h (stepped (world m (some s) bs) st).told) (stepped (world m (some s) bs) st).after.medium
+      → From m (commit_counts h (stepped (world m (Some s) bs) st).told) (stepped (world m (Some s) bs) st).after.medium
   unfolding stepped medium_after Good StepRises commit_counts
   stepped_rises (refused n) G R = kept m m false refl refl
   stepped_rises (gives (Step.program p pg s' finished)) G R = program_rises p pg s' G R
   stepped_rises (gives (Step.erase b s' finished)) G R = stays _ _ _ _ refl (erase_stays b s' G R (erased m b) (erase_cut m s bs h U b s' G))
 
   cut_rises : (st : Answer Step) → Good (views m) s bs h st → StepRises s h.under_way st → (left : List ℕ) → CutOf m st left
-      → From m (commit_counts h (cut_short (world m (some s) bs) left st).told) (cut_short (world m (some s) bs) left st).after.medium
+      → From m (commit_counts h (cut_short (world m (Some s) bs) left st).told) (cut_short (world m (Some s) bs) left st).after.medium
   unfolding cut_short CutOf Good StepRises
   cut_rises (refused n) G R left c = absurd c
   cut_rises (gives (Step.program p pg s' finished)) G R left c = cut_program_rises p pg s' G R left c (same_bytes left (programmed m p pg)) refl
@@ -247,23 +247,23 @@ recovered_rises w h (gives r) = kept _ _ _ refl refl
 happen_rises : (m : List ℕ) (s : Option Held) (bs : List ℕ) (h : History) (e : Event (world m s bs)) → Upheld (world m s bs) h
     → From m (commit_counts h (happen (world m s bs) e).told) (happen (world m s bs) e).after.medium
 unfolding happen with_state step_due commit_counts
-happen_rises m none bs h (Event.append ks ws a b) U = kept m m _ refl refl
-happen_rises m (some s) bs h (Event.append ks ws a b) U = called_rises (world m (some s) bs) h _ _ refl
-happen_rises m none bs h Event.commit U = kept m m _ refl refl
-happen_rises m (some s) bs h Event.commit U = called_rises (world m (some s) bs) h _ _ refl
-happen_rises m none bs h (Event.collect b) U = kept m m _ refl refl
-happen_rises m (some s) bs h (Event.collect b) U = called_rises (world m (some s) bs) h _ _ refl
-happen_rises m none bs h (Event.buffer ks ws a b) U = kept m m _ refl refl
-happen_rises m (some s) bs h (Event.buffer ks ws a b) U = filled_rises (world m (some s) bs) h _ _ refl
-happen_rises m none bs h Event.flush U = kept m m _ refl refl
-happen_rises m (some s) bs h Event.flush U = called_rises (world m (some s) bs) h _ _ refl
-happen_rises m none bs h Event.step U = unfold stepped in kept m m _ refl refl
-happen_rises m (some s) bs h Event.step U = stepped_rises m s bs h U (step_of (length m) (views m) s bs) (due_good m s bs h U) (step_rises (length m) (views m) s bs h U.coupled)
+happen_rises m None bs h (Event.append ks ws a b) U = kept m m _ refl refl
+happen_rises m (Some s) bs h (Event.append ks ws a b) U = called_rises (world m (Some s) bs) h _ _ refl
+happen_rises m None bs h Event.commit U = kept m m _ refl refl
+happen_rises m (Some s) bs h Event.commit U = called_rises (world m (Some s) bs) h _ _ refl
+happen_rises m None bs h (Event.collect b) U = kept m m _ refl refl
+happen_rises m (Some s) bs h (Event.collect b) U = called_rises (world m (Some s) bs) h _ _ refl
+happen_rises m None bs h (Event.buffer ks ws a b) U = kept m m _ refl refl
+happen_rises m (Some s) bs h (Event.buffer ks ws a b) U = filled_rises (world m (Some s) bs) h _ _ refl
+happen_rises m None bs h Event.flush U = kept m m _ refl refl
+happen_rises m (Some s) bs h Event.flush U = called_rises (world m (Some s) bs) h _ _ refl
+happen_rises m None bs h Event.step U = unfold stepped in kept m m _ refl refl
+happen_rises m (Some s) bs h Event.step U = stepped_rises m s bs h U (step_of (length m) (views m) s bs) (due_good m s bs h U) (step_rises (length m) (views m) s bs h U.coupled)
 happen_rises m s bs h Event.recover U = recovered_rises (world m s bs) h _
 happen_rises m s bs h Event.read U = kept m m _ refl refl
 happen_rises m s bs h Event.cut U = kept m m _ refl refl
-happen_rises m none bs h (Event.cut_inside left c) U = absurd (unfold CutOf in c)
-happen_rises m (some s) bs h (Event.cut_inside left c) U =
+happen_rises m None bs h (Event.cut_inside left c) U = absurd (unfold CutOf in c)
+happen_rises m (Some s) bs h (Event.cut_inside left c) U =
     cut_rises m s bs h U (step_of (length m) (views m) s bs) (due_good m s bs h U) (step_rises (length m) (views m) s bs h U.coupled) left c
 
 pub base_rises : (w : World) (h : History) → Reached w h → (e : Event w) → From w.medium (commit_counts h (happen w e).told) (happen w e).after.medium
@@ -274,18 +274,18 @@ happened_rises : (m : List ℕ) (s : Option Held) (bs : List ℕ) (h : History) 
     → From m (commit_counts h (happened (world m s bs) e).told) (happened (world m s bs) e).after.medium
 unfolding happened with_state step_due_before commit_counts
 happened_rises m s bs h (Earlier.same e) U = happen_rises m s bs h e U
-happened_rises m none bs h (Earlier.append ks ws a b) U = kept m m _ refl refl
-happened_rises m (some s) bs h (Earlier.append ks ws a b) U = called_rises (world m (some s) bs) h _ _ refl
-happened_rises m none bs h (Earlier.buffer ks ws a b) U = kept m m _ refl refl
-happened_rises m (some s) bs h (Earlier.buffer ks ws a b) U = filled_rises (world m (some s) bs) h _ _ refl
-happened_rises m none bs h Earlier.flush U = kept m m _ refl refl
-happened_rises m (some s) bs h Earlier.flush U = called_rises (world m (some s) bs) h _ _ refl
-happened_rises m none bs h Earlier.step U = unfold stepped in kept m m _ refl refl
-happened_rises m (some s) bs h Earlier.step U =
+happened_rises m None bs h (Earlier.append ks ws a b) U = kept m m _ refl refl
+happened_rises m (Some s) bs h (Earlier.append ks ws a b) U = called_rises (world m (Some s) bs) h _ _ refl
+happened_rises m None bs h (Earlier.buffer ks ws a b) U = kept m m _ refl refl
+happened_rises m (Some s) bs h (Earlier.buffer ks ws a b) U = filled_rises (world m (Some s) bs) h _ _ refl
+happened_rises m None bs h Earlier.flush U = kept m m _ refl refl
+happened_rises m (Some s) bs h Earlier.flush U = called_rises (world m (Some s) bs) h _ _ refl
+happened_rises m None bs h Earlier.step U = unfold stepped in kept m m _ refl refl
+happened_rises m (Some s) bs h Earlier.step U =
     stepped_rises m s bs h U (step_before (length m) (views m) s bs) (due_before m s bs h U)
     (before_rises (length m) (views m) s bs h U.coupled)
-happened_rises m none bs h (Earlier.cut_inside left c) U = absurd (unfold CutOf in c)
-happened_rises m (some s) bs h (Earlier.cut_inside left c) U =
+happened_rises m None bs h (Earlier.cut_inside left c) U = absurd (unfold CutOf in c)
+happened_rises m (Some s) bs h (Earlier.cut_inside left c) U =
     cut_rises m s bs h U (step_before (length m) (views m) s bs) (due_before m s bs h U)
     (before_rises (length m) (views m) s bs h U.coupled) left c
 

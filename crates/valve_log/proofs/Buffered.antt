@@ -1,7 +1,7 @@
 -- The buffer holds the history's buffered groups, and a flush programs it as lent.
 use mathlib.Core.Path.{◌≡◌, refl, ap, ◌∙◌}
 use mathlib.Core.Bool.{Bool, true, not}
-use mathlib.Core.Option.{Option, none, some}
+use Rattle.std.proofs.Common.{Option, None, Some}
 use mathlib.Core.List.{List, [], ◌∷◌}
 use Prim.Native.Nat.{ℕ}
 use native.Mathlib.Omega.{arith}
@@ -27,9 +27,9 @@ pub holds_buffered : HoldsBuffered
 unfolding HoldsBuffered
 holds_buffered w h s R e = there w.medium w.buffer w.state (reached_upheld w h R) e
   where
-    there : (m bs : List ℕ) (o : Option Held) → Upheld (world m o bs) h → o ≡ some s → gathered bs ≡ some h.buffered
-    there m bs none U e = let z : ◌≡◌ {A = ℕ} 0 1 = cc in absurd (omega arith)
-    there m bs (some t) U e = lent_gathered (lent_of U.lending)
+    there : (m bs : List ℕ) (o : Option Held) → Upheld (world m o bs) h → o ≡ Some s → gathered bs ≡ Some h.buffered
+    there m bs None U e = let z : ◌≡◌ {A = ℕ} 0 1 = cc in absurd (omega arith)
+    there m bs (Some t) U e = lent_gathered (lent_of U.lending)
 
 -- ---- a flush's page
 

@@ -1,7 +1,7 @@
 -- The coupling of medium, state and history: what holds of the three at every moment.
 use mathlib.Core.Path.{◌≡◌, refl}
 use mathlib.Core.Bool.{true, ◌||◌}
-use mathlib.Core.Option.{Option, none, some}
+use Rattle.std.proofs.Common.{Option, None, Some}
 use mathlib.Core.List.{List, [], ◌++◌}
 use Prim.Native.Nat.{ℕ, ◌+◌, ◌-◌, ◌*◌, ◌/◌, ◌≤◌, ◌<◌}
 use lib.Dec.{ltb, eqb}
@@ -35,7 +35,7 @@ pub data Pend (v : List View) (serial : ℕ) (ch : List Placed) (gs : List Group
       → ch ≡ pre ++ lay 2 idx 0 f ps
       → Opened 2 (walk (between []) ch) gs (lay 2 idx 0 f ps)
       → Opened 2 (walk (between []) (lay 2 idx 0 f ps)) [] (lay 2 idx 0 f ps)
-      → groups_of (walk (between []) (lay 2 idx 0 f ps)) ≡ some []
+      → groups_of (walk (between []) (lay 2 idx 0 f ps)) ≡ Some []
       → Pend v serial ch gs idx (commit k) (committing left)
   in_collect : {b : ℕ} → Pend v serial ch gs idx (collect b) collecting
   in_flush : {small : List (List Entry)} → Pend v serial ch gs idx flush (flushing small 1)
@@ -48,8 +48,8 @@ pub record Alive (v : List View) (s : Held) (u : UnderWay) (b : ℕ) (ch : List 
   pub pends : Pend v s.head.serial ch gs idx s.pending u
 
 pub data Memory (v : List View) (u : UnderWay) (b : ℕ) (ch : List Placed) (gs : List Group) (idx : List Place) : Option Held → Type 0 where
-  lost : Memory v u b ch gs idx none
-  alive : {s : Held} → Alive v s u b ch gs idx → Memory v u b ch gs idx (some s)
+  lost : Memory v u b ch gs idx None
+  alive : {s : Held} → Alive v s u b ch gs idx → Memory v u b ch gs idx (Some s)
 
 pub record Coupled (v : List View) (s : Option Held) (h : History) : Type 0 where
   pub b : ℕ
@@ -60,10 +60,10 @@ pub record Coupled (v : List View) (s : Option Held) (h : History) : Type 0 wher
   pub memory : Memory v h.under_way b ch gs idx s
 
 -- the state is lost; what the history has under way does not matter then
-pub forget : {v : List View} {s : Option Held} {h : History} (u : UnderWay) → Coupled v s h → Coupled v none (history h.settings h.log u h.buffered)
+pub forget : {v : List View} {s : Option Held} {h : History} (u : UnderWay) → Coupled v s h → Coupled v None (history h.settings h.log u h.buffered)
 forget u c = record { b = c.b; ch = c.ch; gs = c.gs; idx = c.idx; medium = c.medium; memory = lost }
 
-pub alive_of : {v : List View} {u : UnderWay} {b : ℕ} {ch : List Placed} {gs : List Group} {idx : List Place} {s : Held} → Memory v u b ch gs idx (some s) → Alive v s u b ch gs idx
+pub alive_of : {v : List View} {u : UnderWay} {b : ℕ} {ch : List Placed} {gs : List Group} {idx : List Place} {s : Held} → Memory v u b ch gs idx (Some s) → Alive v s u b ch gs idx
 alive_of (alive a) = a
 
 -- ---- what condition 7 gives

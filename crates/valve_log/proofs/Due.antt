@@ -2,7 +2,7 @@
 use mathlib.Core.Path.{◌≡◌, refl, sym, ap, ◌∙◌}
 use mathlib.Core.Logic.{◌⊎◌, inl, inr}
 use mathlib.Core.Bool.{Bool, true, false, not, cond}
-use mathlib.Core.Option.{some}
+use Rattle.std.proofs.Common.{Some}
 use mathlib.Core.List.{List, [], ◌∷◌}
 use Prim.Native.Nat.{ℕ, ◌+◌, ◌-◌, ◌*◌, ◌/◌, ◌^◌, ◌≤◌, ◌<◌}
 use native.Mathlib.Omega.{arith}
@@ -50,13 +50,13 @@ pub record Programs (v : List View) (s : Held) (b : List ℕ) (h : History) (p :
   pub fits_in : Narrow pg
   pub lawfuls : lawful pg ≡ true
   pub serials : pg.serial ≡ s.head.serial
-  pub after : Coupled (set v p (whole pg)) (some s') (counted h h.under_way)
+  pub after : Coupled (set v p (whole pg)) (Some s') (counted h h.under_way)
   pub lends : Lent s' (cond (eqb pg.kind 4) (blank 256) b) (counted h h.under_way)
 
 -- an erase: of a block, whose pages may each be as before, spoilt or clean; the coupling holds after it
 pub record Erases (v : List View) (bs : List ℕ) (h : History) (b : ℕ) (s' : Held) : Type 0 where
   pub inside : 16 * b + 16 ≤ length v
-  pub after : (w : List View) → CutViews v (16 * b) 16 v w → Coupled w (some s') h
+  pub after : (w : List View) → CutViews v (16 * b) 16 v w → Coupled w (Some s') h
   pub lends : Lent s' bs h
 
 unfoldable pub Good : List View → Held → List ℕ → History → Answer Step → Type 0
@@ -115,7 +115,7 @@ module _ (v : List View) (s : Held) (h : History) {ch : List Placed} {gs : List 
       outside : all (opposite (in_block b)) s.index ≡ true
       outside = not_live s.index b e
 
-      after : (w : List View) → CutViews v (16 * b) 16 v w → Coupled w (some (erasing s b idle)) h
+      after : (w : List View) → CutViews v (16 * b) 16 v w → Coupled w (Some (erasing s b idle)) h
       after w cut =
           record {
             b = s.head.base;
@@ -131,7 +131,7 @@ module _ (v : List View) (s : Held) (h : History) {ch : List Placed} {gs : List 
 -- ---- the erase before a new head's first page
 
 -- the record of an erase does not touch the coupling
-still_coupled : {v : List View} {s : Held} {h : History} (b : ℕ) → Coupled v (some s) h → Coupled v (some (erasing s b s.pending)) h
+still_coupled : {v : List View} {s : Held} {h : History} (b : ℕ) → Coupled v (Some s) h → Coupled v (Some (erasing s b s.pending)) h
 still_coupled {v} {s} {h} b c =
     let a = alive_of c.memory in
     record {
@@ -149,7 +149,7 @@ unfolding erasing
 still_lent b L = record { holds = L.holds; fits_in = L.fits_in; count = L.count; beside = L.beside }
 
 -- the block is wholly clean, and reads as before also where the erase is cut
-first_good : (v : List View) (s : Held) (bs : List ℕ) (h : History) (own : Answer Step) → Coupled v (some s) h → Lent s bs h → Fits v s → Good v s bs h own → Good v s bs h (erased_first v s own)
+first_good : (v : List View) (s : Held) (bs : List ℕ) (h : History) (own : Answer Step) → Coupled v (Some s) h → Lent s bs h → Fits v s → Good v s bs h own → Good v s bs h (erased_first v s own)
 first_good v s bs h own c L facts G =
     first_cases (Good v s bs h) v s own
     (λ r. unfold Good in
@@ -285,7 +285,7 @@ aligned : {v : List View} {log : List (List Entry)} {settings : List Cell} {b : 
 aligned b' idx' p q S = rw (p, q) S
 
 -- the operation's step, on a state that is fit for it
-pub awaited_good : (v : List View) (s : Held) (b : List ℕ) (h : History) → SmallWords v → length v ≤ most_pages → Coupled v (some s) h → Lent s b h → Fits v s → Awaited v s s.pending
+pub awaited_good : (v : List View) (s : Held) (b : List ℕ) (h : History) → SmallWords v → length v ≤ most_pages → Coupled v (Some s) h → Lent s b h → Fits v s → Awaited v s s.pending
     → Good v s b h (erased_first v s (due v s (buffered_in b) s.pending))
 awaited_good v s b h texts few c L F A = first_good v s b h (due v s (buffered_in b) s.pending) c L F (with_state_lem (alive_of c.memory))
   where
@@ -297,7 +297,7 @@ awaited_good v s b h texts few c L F A = first_good v s b h (due v s (buffered_i
         (rw a.indices a.pends) refl A L.beside)
 
 -- the step that is due
-pub step_good : (n : ℕ) (v : List View) (s : Held) (b : List ℕ) (h : History) → SmallWords v → length v ≤ most_pages → Coupled v (some s) h → Lent s b h → Good v s b h (step_of n v s b)
+pub step_good : (n : ℕ) (v : List View) (s : Held) (b : List ℕ) (h : History) → SmallWords v → length v ≤ most_pages → Coupled v (Some s) h → Lent s b h → Good v s b h (step_of n v s b)
 unfolding step_of
 step_good n v s b h texts few c L =
     checked_cases (Good v s b h) (need 1 (size_ok n) ∷ need 7 (fit_with v s b) ∷ need 9 (not (is_idle s.pending)) ∷ []) (erased_first v s (due v s (buffered_in b) s.pending)) (refused_good v s b h)

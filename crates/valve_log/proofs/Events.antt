@@ -2,7 +2,7 @@
 use mathlib.Core.Path.{◌≡◌, refl, sym, ap, ◌∙◌}
 use mathlib.Core.Logic.{◌⊎◌, inl, inr}
 use mathlib.Core.Bool.{Bool, true, false, not, cond}
-use mathlib.Core.Option.{Option, none, some}
+use Rattle.std.proofs.Common.{Option, None, Some}
 use mathlib.Core.List.{List, [], ◌∷◌, ◌++◌, append-nil}
 use Prim.Native.Nat.{ℕ, ◌+◌, ◌-◌, ◌*◌, ◌/◌, ◌%◌, ◌^◌, ◌≤◌, ◌<◌, max}
 use native.Mathlib.Omega.{arith}
@@ -82,12 +82,12 @@ no_groups (g ∷ gs) e = absurd (let z : length (g ∷ gs) ≡ 0 = eqb-true (len
 
 -- ---- calls that begin an operation
 
-module _ (m : List ℕ) (s : Held) (b : List ℕ) (h : History) (U : Upheld (world m (some s) b) h) where
+module _ (m : List ℕ) (s : Held) (b : List ℕ) (h : History) (U : Upheld (world m (Some s) b) h) where
   L : Lent s b h
   L = lent_of U.lending
 
   begin_good : (pend : Pending) (u : UnderWay) → ((ch : List Placed) (gs : List Group) → Pend (views m) s.head.serial ch gs s.index pend u) → Beside pend u h.buffered
-      → Upheld (world m (some (starting s pend)) b) (history h.settings h.log u h.buffered)
+      → Upheld (world m (Some (starting s pend)) b) (history h.settings h.log u h.buffered)
   begin_good pend u p B =
       let c = U.coupled in
       let a = alive_of c.memory in
@@ -107,8 +107,8 @@ module _ (m : List ℕ) (s : Held) (b : List ℕ) (h : History) (U : Upheld (wor
       }
 
   -- a call whose conditions are met begins the operation; otherwise nothing changes
-  call_good : (t : Told) (cs : List Need) (s' : Held) → (every (tests cs) ≡ true → Upheld (world m (some s') b) (tell h t)) → Follows h (called (world m (some s) b) t (checked cs s'))
-  call_good t cs s' U' = checked_cases (λ (r : Answer Held). Follows h (called (world m (some s) b) t r)) cs (gives s') (λ n. unfold called tell in U) (λ e. unfold called in U' e)
+  call_good : (t : Told) (cs : List Need) (s' : Held) → (every (tests cs) ≡ true → Upheld (world m (Some s') b) (tell h t)) → Follows h (called (world m (Some s) b) t (checked cs s'))
+  call_good t cs s' U' = checked_cases (λ (r : Answer Held). Follows h (called (world m (Some s) b) t r)) cs (gives s') (λ n. unfold called tell in U) (λ e. unfold called in U' e)
 
   -- 24: nothing is buffered
   none_buffered : holds_none b ≡ true → h.buffered ≡ []
@@ -120,7 +120,7 @@ module _ (m : List ℕ) (s : Held) (b : List ℕ) (h : History) (U : Upheld (wor
 
   -- an append under conditions that 24 is one of
   pub append_good : (ks ws : List ℕ) (cs : List Need) → (every (tests cs) ≡ true → holds_none b ≡ true) → Below (2 ^ 16) ks → Below (2 ^ 64) ws
-      → Follows h (called (world m (some s) b) (began_append (zip ks ws)) (checked cs (starting s (append (zip ks ws) []))))
+      → Follows h (called (world m (Some s) b) (began_append (zip ks ws)) (checked cs (starting s (append (zip ks ws) []))))
   append_good ks ws cs fourth x y =
       call_good (began_append (zip ks ws)) cs (starting s (append (zip ks ws) []))
       (λ e. unfold tell in begin_good (append (zip ks ws) []) (appending (zip ks ws) (pages_for (length (zip ks ws))))
@@ -128,11 +128,11 @@ module _ (m : List ℕ) (s : Held) (b : List ℕ) (h : History) (U : Upheld (wor
       (small_zip ks ws x y) (omega arith) (omega arith) (unfold lay in unopened) (unfold lay in nil))
       (unfold Beside in none_buffered (fourth e)))
 
-  append_now : (ks ws : List ℕ) → Below (2 ^ 16) ks → Below (2 ^ 64) ws → Follows h (called (world m (some s) b) (began_append (zip ks ws)) (append_of (length m) (views m) s b ks ws))
+  append_now : (ks ws : List ℕ) → Below (2 ^ 16) ks → Below (2 ^ 64) ws → Follows h (called (world m (Some s) b) (began_append (zip ks ws)) (append_of (length m) (views m) s b ks ws))
   unfolding append_of
   append_now ks ws = append_good ks ws (append_needs (length m) (views m) s b ks ws) (λ e. unfold tests in every_at 3 _ e)
 
-  commit_good : Follows h (called (world m (some s) b) began_commit (commit_of (length m) (views m) s b))
+  commit_good : Follows h (called (world m (Some s) b) began_commit (commit_of (length m) (views m) s b))
   unfolding commit_of
   commit_good =
       call_good began_commit (commit_needs (length m) (views m) s b) (starting s (commit 0))
@@ -150,7 +150,7 @@ module _ (m : List ℕ) (s : Held) (b : List ℕ) (h : History) (U : Upheld (wor
       left_is : max 1 (pages_for (length h.settings)) + 0 ≡ base_pages (length s.index)
       left_is = unfold base_pages in (rw sizes (omega arith))
 
-  collect_good : (block : ℕ) → Follows h (called (world m (some s) b) began_collect (collect_of (length m) (views m) s b block))
+  collect_good : (block : ℕ) → Follows h (called (world m (Some s) b) began_collect (collect_of (length m) (views m) s b block))
   unfolding collect_of
   collect_good block =
       call_good began_collect (collect_needs (length m) (views m) s b block) (starting s (collect block))
@@ -160,7 +160,7 @@ module _ (m : List ℕ) (s : Held) (b : List ℕ) (h : History) (U : Upheld (wor
       fourth e = unfold tests in every_at 3 _ e
 
   -- a flush under conditions that 10 is one of
-  pub flush_good : (cs : List Need) → (every (tests cs) ≡ true → not (holds_none b) ≡ true) → Follows h (called (world m (some s) b) began_flush (checked cs (starting s flush)))
+  pub flush_good : (cs : List Need) → (every (tests cs) ≡ true → not (holds_none b) ≡ true) → Follows h (called (world m (Some s) b) began_flush (checked cs (starting s flush)))
   unfolding Beside
   flush_good cs fourth =
       call_good began_flush cs (starting s flush)
@@ -169,7 +169,7 @@ module _ (m : List ℕ) (s : Held) (b : List ℕ) (h : History) (U : Upheld (wor
       flushes : every (tests cs) ≡ true → Beside flush (flushing h.buffered 1) h.buffered
       flushes e = (refl, some_buffered (fourth e))
 
-  flush_now : Follows h (called (world m (some s) b) began_flush (flush_of (length m) (views m) s b))
+  flush_now : Follows h (called (world m (Some s) b) began_flush (flush_of (length m) (views m) s b))
   unfolding flush_of
   flush_now = flush_good (flush_needs (length m) (views m) s b) (λ e. unfold tests in every_at 3 _ e)
 
@@ -183,9 +183,9 @@ module _ (m : List ℕ) (s : Held) (b : List ℕ) (h : History) (U : Upheld (wor
 
   -- a group into the buffer, under such conditions
   pub buffer_good : (ks ws : List ℕ) (cs : List Need) → (every (tests cs) ≡ true → Puts ks ws) → Below (2 ^ 16) ks → Below (2 ^ 64) ws
-      → Follows h (filled (world m (some s) b) (put_in (zip ks ws)) (checked cs (holding (buffered_in b ++ (zip ks ws ∷ [])))))
+      → Follows h (filled (world m (Some s) b) (put_in (zip ks ws)) (checked cs (holding (buffered_in b ++ (zip ks ws ∷ [])))))
   buffer_good ks ws cs puts x y =
-      checked_cases (λ (r : Answer (List ℕ)). Follows h (filled (world m (some s) b) (put_in (zip ks ws)) r)) cs
+      checked_cases (λ (r : Answer (List ℕ)). Follows h (filled (world m (Some s) b) (put_in (zip ks ws)) r)) cs
       (gives (holding (buffered_in b ++ (zip ks ws ∷ []))))
       (λ n. unfold filled tell in U) (λ e. unfold filled tell in after (puts e))
     where
@@ -196,7 +196,7 @@ module _ (m : List ℕ) (s : Held) (b : List ℕ) (h : History) (U : Upheld (wor
           let few : length (changes_of (buffered_in b)) + length ks ≤ 16 = leb-true (length (changes_of (buffered_in b)) + length ks) 16 (unfold places_for in P.places) in
           lent_more L (zip ks ws) P.rests (small_zip ks ws x y) (omega arith) (omega arith) P.lawfuls P.counts
 
-      after : Puts ks ws → Upheld (world m (some s) (holding (buffered_in b ++ (zip ks ws ∷ [])))) (history h.settings h.log h.under_way (h.buffered ++ (zip ks ws ∷ [])))
+      after : Puts ks ws → Upheld (world m (Some s) (holding (buffered_in b ++ (zip ks ws ∷ [])))) (history h.settings h.log h.under_way (h.buffered ++ (zip ks ws ∷ [])))
       after P =
           let c = U.coupled in
           record {
@@ -206,7 +206,7 @@ module _ (m : List ℕ) (s : Held) (b : List ℕ) (h : History) (U : Upheld (wor
             lending = kept {s = s} (lends P);
           }
 
-  buffer_now : (ks ws : List ℕ) → Below (2 ^ 16) ks → Below (2 ^ 64) ws → Follows h (filled (world m (some s) b) (put_in (zip ks ws)) (buffer_of (length m) (views m) s b ks ws))
+  buffer_now : (ks ws : List ℕ) → Below (2 ^ 16) ks → Below (2 ^ 64) ws → Follows h (filled (world m (Some s) b) (put_in (zip ks ws)) (buffer_of (length m) (views m) s b ks ws))
   unfolding buffer_of tests
   buffer_now ks ws =
       buffer_good ks ws (buffer_needs (length m) (views m) s b ks ws)
@@ -220,7 +220,7 @@ recover_good m s b h U = rw (accepts U.coupled.medium (length m) U.size) (unfold
     c : Coupled (views m) s h
     c = U.coupled
 
-    afterwards : Upheld (world m (some (outcome c.medium)) fresh) (history h.settings h.log nothing [])
+    afterwards : Upheld (world m (Some (outcome c.medium)) fresh) (history h.settings h.log nothing [])
     afterwards =
         record {
           size = U.size;
@@ -239,7 +239,7 @@ recover_good m s b h U = rw (accepts U.coupled.medium (length m) U.size) (unfold
 
 -- ---- a cut between two steps
 
-pub cut_good : (m : List ℕ) (s : Option Held) (b b' : List ℕ) (h : History) → Upheld (world m s b) h → Upheld (world m none b') h
+pub cut_good : (m : List ℕ) (s : Option Held) (b b' : List ℕ) (h : History) → Upheld (world m s b) h → Upheld (world m None b') h
 cut_good m s b b' h U = record { size = U.size; guarded = U.guarded; coupled = forget h.under_way U.coupled; lending = lost }
 
 -- ---- the bytes of two media
@@ -258,7 +258,7 @@ same_refl (x ∷ xs) = and_both (eq-eqb x x refl) (same_refl xs)
 
 -- ---- the step due, and a cut inside it
 
-module _ (m : List ℕ) (s : Held) (bs : List ℕ) (h : History) (U : Upheld (world m (some s) bs) h) where
+module _ (m : List ℕ) (s : Held) (bs : List ℕ) (h : History) (U : Upheld (world m (Some s) bs) h) where
   -- a page programmed
   module _ (p : ℕ) (pg : Page) (s' : Held) (P : Programs (views m) s bs h p pg s') where
     pub there : 256 * p + 256 ≤ length m
@@ -267,7 +267,7 @@ module _ (m : List ℕ) (s : Held) (bs : List ℕ) (h : History) (U : Upheld (wo
     few : length pg.entries ≤ 24
     few = P.fits_in.count
 
-    program_upheld : Upheld (world (programmed m p pg) (some s') (cond (eqb pg.kind 4) (blank 256) bs)) (counted h h.under_way)
+    program_upheld : Upheld (world (programmed m p pg) (Some s') (cond (eqb pg.kind 4) (blank 256) bs)) (counted h h.under_way)
     program_upheld =
         record {
           size = rw (program_length m p pg there few) U.size;
@@ -299,9 +299,9 @@ module _ (m : List ℕ) (s : Held) (bs : List ℕ) (h : History) (U : Upheld (wo
           go spoilt k = unfold is_whole in refl
           go (whole y) k = true_false (rw (cut_program_final m p pg left there few U.guarded c y k) (same_refl (programmed m p pg))) e
 
-      cut_program_upheld : (b : Bool) → same_bytes left (programmed m p pg) ≡ b → Upheld (world left none fresh) (tell h (cond b stepped_page unchanged))
+      cut_program_upheld : (b : Bool) → same_bytes left (programmed m p pg) ≡ b → Upheld (world left None fresh) (tell h (cond b stepped_page unchanged))
       cut_program_upheld true e =
-          rw (same_true left (programmed m p pg) e) (unfold tell in cut_good (programmed m p pg) (some s') (cond (eqb pg.kind 4) (blank 256) bs) fresh (counted h h.under_way) program_upheld)
+          rw (same_true left (programmed m p pg) e) (unfold tell in cut_good (programmed m p pg) (Some s') (cond (eqb pg.kind 4) (blank 256) bs) fresh (counted h h.under_way) program_upheld)
       cut_program_upheld false e =
           let C = U.coupled in
           let k = one_keeps (views m) (views left) p P.cleans others in
@@ -336,7 +336,7 @@ module _ (m : List ℕ) (s : Held) (bs : List ℕ) (h : History) (U : Upheld (wo
           outside = λ q o. seen_uncleaned (views m) (16 * b) 16 E.inside q o;
         })
 
-    erase_upheld : Upheld (world (erased m b) (some s') bs) h
+    erase_upheld : Upheld (world (erased m b) (Some s') bs) h
     erase_upheld = record {
       size = rw (erase_length m b block_there) U.size;
       guarded = erase_guarded m b block_there U.guarded;
@@ -344,7 +344,7 @@ module _ (m : List ℕ) (s : Held) (bs : List ℕ) (h : History) (U : Upheld (wo
       lending = kept E.lends;
     }
 
-    cut_erase_upheld : (left : List ℕ) → CutErase m b left → Upheld (world left none fresh) h
+    cut_erase_upheld : (left : List ℕ) → CutErase m b left → Upheld (world left None fresh) h
     cut_erase_upheld left c =
         let l : length left ≡ length m = unfold CutErase in c.size in
         record {
@@ -354,13 +354,13 @@ module _ (m : List ℕ) (s : Held) (bs : List ℕ) (h : History) (U : Upheld (wo
           lending = lost;
         }
 
-  pub step_goes : (st : Answer Step) → Good (views m) s bs h st → Follows h (stepped (world m (some s) bs) st)
+  pub step_goes : (st : Answer Step) → Good (views m) s bs h st → Follows h (stepped (world m (Some s) bs) st)
   unfolding stepped medium_after buffer_after Good tell
   step_goes (refused n) G = U
   step_goes (gives (Step.program p pg s' finished)) G = program_upheld p pg s' G
   step_goes (gives (Step.erase b s' finished)) G = erase_upheld b s' G
 
-  pub cut_goes : (st : Answer Step) → Good (views m) s bs h st → (left : List ℕ) → CutOf m st left → Follows h (cut_short (world m (some s) bs) left st)
+  pub cut_goes : (st : Answer Step) → Good (views m) s bs h st → (left : List ℕ) → CutOf m st left → Follows h (cut_short (world m (Some s) bs) left st)
   unfolding cut_short CutOf Good
   cut_goes (refused n) G left c = absurd c
   cut_goes (gives (Step.program p pg s' finished)) G left c = cut_program_upheld p pg s' G left c (same_bytes left (programmed m p pg)) refl
@@ -373,20 +373,20 @@ module _ (m : List ℕ) (s : Held) (bs : List ℕ) (h : History) (U : Upheld (wo
 
 pub happen_good : (m : List ℕ) (s : Option Held) (b : List ℕ) (h : History) (e : Event (world m s b)) → Upheld (world m s b) h → Follows h (happen (world m s b) e)
 unfolding happen with_state step_due
-happen_good m none b h (Event.append ks ws x y) U = unfold tell in U
-happen_good m (some s) b h (Event.append ks ws x y) U = append_now m s b h U ks ws x y
-happen_good m none b h Event.commit U = unfold tell in U
-happen_good m (some s) b h Event.commit U = commit_good m s b h U
-happen_good m none b h (Event.collect k) U = unfold tell in U
-happen_good m (some s) b h (Event.collect k) U = collect_good m s b h U k
-happen_good m none b h (Event.buffer ks ws x y) U = unfold tell in U
-happen_good m (some s) b h (Event.buffer ks ws x y) U = buffer_now m s b h U ks ws x y
-happen_good m none b h Event.flush U = unfold tell in U
-happen_good m (some s) b h Event.flush U = flush_now m s b h U
-happen_good m none b h Event.step U = unfold stepped tell in U
-happen_good m (some s) b h Event.step U = step_goes m s b h U (step_of (length m) (views m) s b) (due_good m s b h U)
+happen_good m None b h (Event.append ks ws x y) U = unfold tell in U
+happen_good m (Some s) b h (Event.append ks ws x y) U = append_now m s b h U ks ws x y
+happen_good m None b h Event.commit U = unfold tell in U
+happen_good m (Some s) b h Event.commit U = commit_good m s b h U
+happen_good m None b h (Event.collect k) U = unfold tell in U
+happen_good m (Some s) b h (Event.collect k) U = collect_good m s b h U k
+happen_good m None b h (Event.buffer ks ws x y) U = unfold tell in U
+happen_good m (Some s) b h (Event.buffer ks ws x y) U = buffer_now m s b h U ks ws x y
+happen_good m None b h Event.flush U = unfold tell in U
+happen_good m (Some s) b h Event.flush U = flush_now m s b h U
+happen_good m None b h Event.step U = unfold stepped tell in U
+happen_good m (Some s) b h Event.step U = step_goes m s b h U (step_of (length m) (views m) s b) (due_good m s b h U)
 happen_good m s b h Event.recover U = recover_good m s b h U
 happen_good m s b h Event.read U = unfold tell in U
 happen_good m s b h Event.cut U = unfold tell in cut_good m s b fresh h U
-happen_good m none b h (Event.cut_inside left c) U = absurd (unfold CutOf in c)
-happen_good m (some s) b h (Event.cut_inside left c) U = cut_goes m s b h U (step_of (length m) (views m) s b) (due_good m s b h U) left c
+happen_good m None b h (Event.cut_inside left c) U = absurd (unfold CutOf in c)
+happen_good m (Some s) b h (Event.cut_inside left c) U = cut_goes m s b h U (step_of (length m) (views m) s b) (due_good m s b h U) left c

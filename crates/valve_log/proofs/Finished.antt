@@ -1,7 +1,7 @@
 -- Formatting, begun on any medium of allowed length and stepped, is finished.
 use mathlib.Core.Path.{◌≡◌, refl, sym, ap, subst, ◌∙◌}
 use mathlib.Core.Bool.{Bool, true, false}
-use mathlib.Core.Option.{some}
+use Rattle.std.proofs.Common.{Some}
 use mathlib.Core.List.{List, []}
 use Prim.Native.Nat.{ℕ, zero, suc, ◌*◌, ◌/◌, ◌≤◌, ◌<◌}
 use native.Mathlib.Omega.{arith}
@@ -33,19 +33,19 @@ use Rattle.valve_log.proofs.Formats.{one_more, base_page, blank_page, page_there
 -- ---- a step of formatting as an event
 
 module _ (m : List ℕ) (s : Held) (t : Answer Step) (d : step_of (length m) (views m) s fresh ≡ t) where
-  due_is : step_due (world m (some s) fresh) ≡ t
+  due_is : step_due (world m (Some s) fresh) ≡ t
   unfolding step_due with_state
   due_is = d
 
-  after_is : (happen (world m (some s) fresh) Event.step).after ≡ (stepped (world m (some s) fresh) t).after
+  after_is : (happen (world m (Some s) fresh) Event.step).after ≡ (stepped (world m (Some s) fresh) t).after
   unfolding happen
-  after_is = ap (λ (q : Answer Step). (stepped (world m (some s) fresh) q).after) due_is
+  after_is = ap (λ (q : Answer Step). (stepped (world m (Some s) fresh) q).after) due_is
 
-erase_after : (m : List ℕ) (s s' : Held) (k : ℕ) → (stepped (world m (some s) fresh) (gives (Step.erase k s' false))).after ≡ world (erased m k) (some s') fresh
+erase_after : (m : List ℕ) (s s' : Held) (k : ℕ) → (stepped (world m (Some s) fresh) (gives (Step.erase k s' false))).after ≡ world (erased m k) (Some s') fresh
 unfolding stepped medium_after buffer_after
 erase_after m s s' k = refl
 
-program_after : (m : List ℕ) (s s' : Held) → (stepped (world m (some s) fresh) (gives (Step.program 0 base_page s' true))).after ≡ world (programmed m 0 base_page) (some s') fresh
+program_after : (m : List ℕ) (s s' : Held) → (stepped (world m (Some s) fresh) (gives (Step.program 0 base_page s' true))).after ≡ world (programmed m 0 base_page) (Some s') fresh
 unfolding stepped medium_after buffer_after
 program_after m s s' = refl
 
@@ -67,7 +67,7 @@ records_after n (suc k) = now_erased (records_after n k) k
 record Erased (n k : ℕ) (w : World) : Type 0 where
   pub medium : List ℕ
   pub records : List Bool
-  pub is : w ≡ world medium (some (format_state (length medium / 4096) k records)) fresh
+  pub is : w ≡ world medium (Some (format_state (length medium / 4096) k records)) fresh
   pub long : length medium ≡ n
   pub bytes : Bytes medium
   pub blanks : (i : ℕ) → i < 4096 * k → get_or medium i 0 ≡ 255
@@ -105,7 +105,7 @@ module _ (n : ℕ) (size : size_ok n ≡ true) where
           records = now_erased E.records k;
           is =
               ap (λ (x : World). (happen x Event.step).after) E.is ∙ after_is m _ _ erases ∙ erase_after m _ _ k
-              ∙ ap (λ (j : ℕ). world (erased m k) (some (format_state (j / 4096) (suc k) (now_erased E.records k))) fresh) (sym l);
+              ∙ ap (λ (j : ℕ). world (erased m k) (Some (format_state (j / 4096) (suc k) (now_erased E.records k))) fresh) (sym l);
           long = l ∙ E.long;
           bytes = I.bytes;
           blanks = I.blanks;
@@ -141,8 +141,8 @@ module _ (n : ℕ) (size : size_ok n ≡ true) where
         let S = sized (length E.medium) size_last in
         base_due (length E.medium) (views E.medium) blocks E.records fresh [] size_last (omega (arith, length_views E.medium)) (omega (arith, S.low)) gathered_blank first_clean_lem
 
-    here : w ≡ world E.medium (some (format_state blocks blocks E.records)) fresh
-    here = E.is ∙ ap (λ (j : ℕ). world E.medium (some (format_state blocks j E.records)) fresh) (sym all_there)
+    here : w ≡ world E.medium (Some (format_state blocks blocks E.records)) fresh
+    here = E.is ∙ ap (λ (j : ℕ). world E.medium (Some (format_state blocks j E.records)) fresh) (sym all_there)
 
     last_not_refused : (j : ℕ) → step_due w ≡ refused j → ⊥
     last_not_refused j e =
@@ -161,7 +161,7 @@ module _ (n : ℕ) (size : size_ok n ≡ true) where
 -- ---- from where formatting begins
 
 abbrev first : List ℕ → World
-first m = world m (some (formatting (length m / 4096))) fresh
+first m = world m (Some (formatting (length m / 4096))) fresh
 
 pub begun_there : (n : ℕ) → size_ok n ≡ true → format_of n ≡ gives (formatting (n / 4096))
 unfolding format_of under
@@ -242,7 +242,7 @@ formatted_alike m m' b b' size long s f =
     let g : formatting (length m / 4096) ≡ s = same_given (sym (begun_there (length m) size) ∙ f) in
     let k : length m / 4096 ≤ length m / 4096 = omega arith in
     let E = at m b size (length m / 4096) k in
-    let there = world m' (some (formatting (length m / 4096))) fresh in
+    let there = world m' (Some (formatting (length m / 4096))) fresh in
     let E' : Erased (length m) (length m / 4096) (steps_on (length m / 4096) there) = rw long at (at m' b' (rw long size) (length m / 4096) (omega (arith, long))) in
     let same = same_world (length m) (steps_on (length m / 4096) (first m)) (steps_on (length m / 4096) there) E E' size in
     rw (← g) (ap (λ (w : World). (happen w Event.step).after) same)

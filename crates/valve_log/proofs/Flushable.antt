@@ -2,7 +2,7 @@
 -- serials.
 use mathlib.Core.Path.{◌≡◌, refl, sym, ap, ◌∙◌}
 use mathlib.Core.Bool.{Bool, true, false}
-use mathlib.Core.Option.{Option, none, some}
+use Rattle.std.proofs.Common.{Option, None, Some}
 use mathlib.Core.List.{List, [], ◌∷◌}
 use Prim.Native.Nat.{ℕ, ◌+◌, ◌≤◌}
 use native.Mathlib.Omega.{arith}
@@ -50,8 +50,8 @@ Room v s flush = serials_for s.head 1 ≡ true
 Room v s unnamed = Unit {0}
 
 unfoldable StateRoom : List View → List (List Entry) → Option Held → Type 0
-StateRoom v gs none = Unit {0}
-StateRoom v gs (some s) = 1 ≤ length gs → Room v s s.pending
+StateRoom v gs None = Unit {0}
+StateRoom v gs (Some s) = 1 ≤ length gs → Room v s s.pending
 
 abbrev WorldRoom : World → History → Type 0
 WorldRoom w h = StateRoom (views w.medium) h.buffered w.state
@@ -82,8 +82,8 @@ nothing_in e k = absurd (omega (arith, ap length e))
 
 room_none : (v : List View) (gs : List (List Entry)) (o : Option Held) → gs ≡ [] → StateRoom v gs o
 unfolding StateRoom
-room_none v gs none e = tt
-room_none v gs (some s) e = λ k. nothing_in e k
+room_none v gs None e = tt
+room_none v gs (Some s) e = λ k. nothing_in e k
 
 -- ---- a step
 
@@ -121,7 +121,7 @@ module _ (s : Held) (h : History) where
 
 -- ---- any event
 
-module _ (m : List ℕ) (s : Held) (bs : List ℕ) (h : History) (U : Upheld (world m (some s) bs) h) (r : StateRoom (views m) h.buffered (some s)) where
+module _ (m : List ℕ) (s : Held) (bs : List ℕ) (h : History) (U : Upheld (world m (Some s) bs) h) (r : StateRoom (views m) h.buffered (Some s)) where
   L : Lent s bs h
   L = lent_of U.lending
 
@@ -134,20 +134,20 @@ module _ (m : List ℕ) (s : Held) (bs : List ℕ) (h : History) (U : Upheld (wo
       empty [] q = refl
       empty (x ∷ xs) q = absurd (omega arith)
 
-  call_room : (t : Told) (cs : List Need) (s' : Held) → (tell h t).buffered ≡ h.buffered → (every (tests cs) ≡ true → StateRoom (views m) h.buffered (some s'))
-      → WorldRoom (called (world m (some s) bs) t (checked cs s')).after (tell h (called (world m (some s) bs) t (checked cs s')).told)
+  call_room : (t : Told) (cs : List Need) (s' : Held) → (tell h t).buffered ≡ h.buffered → (every (tests cs) ≡ true → StateRoom (views m) h.buffered (Some s'))
+      → WorldRoom (called (world m (Some s) bs) t (checked cs s')).after (tell h (called (world m (Some s) bs) t (checked cs s')).told)
   call_room t cs s' e f =
-      checked_cases (λ (c : Answer Held). WorldRoom (called (world m (some s) bs) t c).after (tell h (called (world m (some s) bs) t c).told)) cs (gives s')
+      checked_cases (λ (c : Answer Held). WorldRoom (called (world m (Some s) bs) t c).after (tell h (called (world m (Some s) bs) t c).told)) cs (gives s')
       (λ n. unfold called tell in r) (λ x. unfold called in rw e (f x))
 
   -- 13 and 14 are asked where a group is put in
   buffer_room : (t : Told) (cs : List Need) (b : List ℕ) → (every (tests cs) ≡ true → Room (views m) s s.pending)
-      → WorldRoom (filled (world m (some s) bs) t (checked cs b)).after (tell h (filled (world m (some s) bs) t (checked cs b)).told)
+      → WorldRoom (filled (world m (Some s) bs) t (checked cs b)).after (tell h (filled (world m (Some s) bs) t (checked cs b)).told)
   buffer_room t cs b f =
-      checked_cases (λ (c : Answer (List ℕ)). WorldRoom (filled (world m (some s) bs) t c).after (tell h (filled (world m (some s) bs) t c).told)) cs (gives b)
+      checked_cases (λ (c : Answer (List ℕ)). WorldRoom (filled (world m (Some s) bs) t c).after (tell h (filled (world m (Some s) bs) t c).told)) cs (gives b)
       (λ n. unfold filled tell in r) (λ x. unfold filled StateRoom in λ k. f x)
 
-  step_room : (st : Answer Step) → Leaves s h st → WorldRoom (stepped (world m (some s) bs) st).after (tell h (stepped (world m (some s) bs) st).told)
+  step_room : (st : Answer Step) → Leaves s h st → WorldRoom (stepped (world m (Some s) bs) st).after (tell h (stepped (world m (Some s) bs) st).told)
   unfolding stepped tell StateRoom Leaves
   step_room (refused n) l = r
   step_room (gives (Step.program p pg t f)) l = λ x. nothing_in l x
@@ -162,7 +162,7 @@ module _ (m : List ℕ) (s : Held) (bs : List ℕ) (h : History) (U : Upheld (wo
 recovered_room : (w : World) (h : History) (R : Answer Recovery) → WorldRoom w h → WorldRoom (recovered w R).after (tell h (recovered w R).told)
 unfolding recovered tell
 recovered_room w h (refused n) r = r
-recovered_room w h (gives x) r = room_none _ _ (some x.state) refl
+recovered_room w h (gives x) r = room_none _ _ (Some x.state) refl
 
 cut_room : (w : World) (left : List ℕ) (st : Answer Step) (g : List (List Entry)) → StateRoom (views (cut_short w left st).after.medium) g (cut_short w left st).after.state
 unfolding cut_short StateRoom
@@ -173,27 +173,27 @@ cut_room w left (gives (Step.erase b s f)) g = tt
 event_room : (m : List ℕ) (s : Option Held) (b : List ℕ) (h : History) (e : Event (world m s b)) → Upheld (world m s b) h → StateRoom (views m) h.buffered s
     → WorldRoom (happen (world m s b) e).after (tell h (happen (world m s b) e).told)
 unfolding happen with_state step_due
-event_room m none b h (Event.append ks ws x y) U r = unfold tell in r
-event_room m (some s) b h (Event.append ks ws x y) U r =
+event_room m None b h (Event.append ks ws x y) U r = unfold tell in r
+event_room m (Some s) b h (Event.append ks ws x y) U r =
     unfold append_of in call_room m s b h U r (began_append (zip ks ws)) (append_needs (length m) (views m) s b ks ws) _ (unfold tell in refl)
-    (λ q. room_none (views m) _ (some _) (none_held m s b h U r (unfold tests in every_at 3 _ q)))
-event_room m none b h Event.commit U r = unfold tell in r
-event_room m (some s) b h Event.commit U r =
+    (λ q. room_none (views m) _ (Some _) (none_held m s b h U r (unfold tests in every_at 3 _ q)))
+event_room m None b h Event.commit U r = unfold tell in r
+event_room m (Some s) b h Event.commit U r =
     unfold commit_of in call_room m s b h U r began_commit (commit_needs (length m) (views m) s b) _ (unfold tell in refl)
-    (λ q. room_none (views m) _ (some _) (none_held m s b h U r (unfold tests in every_at 3 _ q)))
-event_room m none b h (Event.collect k) U r = unfold tell in r
-event_room m (some s) b h (Event.collect k) U r =
+    (λ q. room_none (views m) _ (Some _) (none_held m s b h U r (unfold tests in every_at 3 _ q)))
+event_room m None b h (Event.collect k) U r = unfold tell in r
+event_room m (Some s) b h (Event.collect k) U r =
     unfold collect_of in call_room m s b h U r began_collect (collect_needs (length m) (views m) s b k) _ (unfold tell in refl)
-    (λ q. room_none (views m) _ (some _) (none_held m s b h U r (unfold tests in every_at 3 _ q)))
-event_room m none b h (Event.buffer ks ws x y) U r = unfold tell in r
-event_room m (some s) b h (Event.buffer ks ws x y) U r =
+    (λ q. room_none (views m) _ (Some _) (none_held m s b h U r (unfold tests in every_at 3 _ q)))
+event_room m None b h (Event.buffer ks ws x y) U r = unfold tell in r
+event_room m (Some s) b h (Event.buffer ks ws x y) U r =
     unfold buffer_of in buffer_room m s b h U r (put_in (zip ks ws)) (buffer_needs (length m) (views m) s b ks ws) _
     (λ q. room_met (views m) s s.pending (unfold tests in every_at 7 _ q) (unfold tests in every_at 8 _ q))
-event_room m none b h Event.flush U r = unfold tell in r
-event_room m (some s) b h Event.flush U r =
+event_room m None b h Event.flush U r = unfold tell in r
+event_room m (Some s) b h Event.flush U r =
     unfold flush_of in call_room m s b h U r began_flush (flush_needs (length m) (views m) s b) _ (unfold tell in refl) (λ q. unfold StateRoom Room in λ k. unfold tests in every_at 7 _ q)
-event_room m none b h Event.step U r = unfold stepped tell in r
-event_room m (some s) b h Event.step U r = step_room m s b h U r (step_of (length m) (views m) s b) (step_leaves m s b h U r)
+event_room m None b h Event.step U r = unfold stepped tell in r
+event_room m (Some s) b h Event.step U r = step_room m s b h U r (step_of (length m) (views m) s b) (step_leaves m s b h U r)
 event_room m s b h Event.recover U r = recovered_room (world m s b) h (recovery.recover (length m) (views m)) r
 event_room m s b h Event.read U r = unfold tell in r
 event_room m s b h Event.cut U r = unfold StateRoom in tt
@@ -206,8 +206,8 @@ reached_room w h (Reached.taken_over b) = unfold StateRoom in tt
 
 -- ---- the flush
 
-module _ (m : List ℕ) (s : Held) (bs : List ℕ) (h : History) (U : Upheld (world m (some s) bs) h) (r : Ready (views m) s)
-    (A : Allowed h) (R : StateRoom (views m) h.buffered (some s)) (some-held : holds_none bs ≡ false) where
+module _ (m : List ℕ) (s : Held) (bs : List ℕ) (h : History) (U : Upheld (world m (Some s) bs) h) (r : Ready (views m) s)
+    (A : Allowed h) (R : StateRoom (views m) h.buffered (Some s)) (some-held : holds_none bs ≡ false) where
   abbrev v : List View
   v = views m
 
@@ -283,10 +283,10 @@ module _ (m : List ℕ) (s : Held) (bs : List ℕ) (h : History) (U : Upheld (wo
       true_false x (unfold expected every in refl))
 
 answers : (m : List ℕ) (o : Option Held) (bs : List ℕ) (h : History) (s : Held) → Upheld (world m o bs) h → StateReady (views m) o
-    → StateAllowed o h → StateRoom (views m) h.buffered o → o ≡ some s → holds_none bs ≡ false → Answers m s bs → CanFlush m s bs
+    → StateAllowed o h → StateRoom (views m) h.buffered o → o ≡ Some s → holds_none bs ≡ false → Answers m s bs → CanFlush m s bs
 unfolding StateReady StateAllowed
-answers m none bs h s U r L R e k A = let z : ◌≡◌ {A = ℕ} 0 1 = cc in absurd (omega arith)
-answers m (some t) bs h s U r L R e k A =
+answers m None bs h s U r L R e k A = let z : ◌≡◌ {A = ℕ} 0 1 = cc in absurd (omega arith)
+answers m (Some t) bs h s U r L R e k A =
     let q : t ≡ s = cc in
     rw (← q) (record { begins = begins m t bs h U r L R k; pends = pends m t bs h U r L R k; steps = steps m t bs h U r L R k (rw q A) })
 

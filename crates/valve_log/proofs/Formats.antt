@@ -3,7 +3,7 @@
 use mathlib.Core.Path.{◌≡◌, refl, sym, ap, subst, ◌∙◌}
 use mathlib.Core.Logic.{inl}
 use mathlib.Core.Bool.{Bool, true, false, not}
-use mathlib.Core.Option.{Option, some}
+use Rattle.std.proofs.Common.{Option, Some}
 use mathlib.Core.List.{List, [], ◌∷◌}
 use Prim.Native.Nat.{ℕ, zero, suc, ◌+◌, ◌-◌, ◌*◌, ◌/◌, ◌≤◌, ◌<◌}
 use native.Mathlib.Omega.{arith}
@@ -53,7 +53,7 @@ pub record InFormat (m : List ℕ) (s : Option Held) : Type 0 where
   pub done : ℕ
   pub few : done ≤ length m / 4096
   pub erased : List Bool
-  pub state : s ≡ some (format_state (length m / 4096) done erased)
+  pub state : s ≡ Some (format_state (length m / 4096) done erased)
   pub blanks : (i : ℕ) → i < 4096 * done → get_or m i 0 ≡ 255
 
 begun_is : (n : ℕ) (s : Held) → format_of n ≡ gives s → (size_ok n ≡ true) × (s ≡ formatting (n / 4096))
@@ -82,13 +82,13 @@ busy_buffer w t a b c cs bs e =
 
 module _ (m : List ℕ) (bs : List ℕ) (k : ℕ) (e : List Bool) (size : size_ok (length m) ≡ true) (bytes : Bytes m) (few : k ≤ length m / 4096) (blanks : (i : ℕ) → i < 4096 * k → get_or m i 0 ≡ 255) where
   abbrev here : World
-  here = world m (some (format_state (length m / 4096) k e)) bs
+  here = world m (Some (format_state (length m / 4096) k e)) bs
 
-  same : InFormat m (some (format_state (length m / 4096) k e))
+  same : InFormat m (Some (format_state (length m / 4096) k e))
   same = record { size = size; bytes = bytes; done = k; few = few; erased = e; state = refl; blanks = blanks }
 
   -- the step erases the next block, or programs the base and finishes
-  unfoldable pub one_more : k < length m / 4096 → InFormat (erased m k) (some (erasing (format_state (length m / 4096) k e) k (format (suc k))))
+  unfoldable pub one_more : k < length m / 4096 → InFormat (erased m k) (Some (erasing (format_state (length m / 4096) k e) k (format (suc k))))
   unfolding erased erasing
   one_more h =
       let there : 4096 * k + 4096 ≤ length m = omega arith in
@@ -188,7 +188,7 @@ start_sound k =
 abbrev pub started : ℕ → List Bool → Held
 started blocks e = held (record { blocks = blocks; block = 0; next = 1; serial = 2; base = 1 }) [] idle e
 
-pub start_coupled : (blocks k : ℕ) (e : List Bool) → Coupled (whole base_page ∷ replicate k clean) (some (started blocks e)) start
+pub start_coupled : (blocks k : ℕ) (e : List Bool) → Coupled (whole base_page ∷ replicate k clean) (Some (started blocks e)) start
 start_coupled blocks k e =
     record {
       b = 1;
@@ -205,7 +205,7 @@ pub record Begins (w : World) : Type 0 where
   pub pages : ℕ
   pub sees : views w.medium ≡ whole base_page ∷ replicate pages clean
   pub erased : List Bool
-  pub holds : w.state ≡ some (started (length w.medium / 4096) erased)
+  pub holds : w.state ≡ Some (started (length w.medium / 4096) erased)
 
 -- the step that finishes: all blocks are erased, and the base goes to page 0
 module _ (m : List ℕ) (bs : List ℕ) (k : ℕ) (e : List Bool) (size : size_ok (length m) ≡ true) (bytes : Bytes m) (few : k ≤ length m / 4096) (blanks : (i : ℕ) → i < 4096 * k → get_or m i 0 ≡ 255) where
@@ -257,7 +257,7 @@ module _ (m : List ℕ) (bs : List ℕ) (k : ℕ) (e : List Bool) (size : size_o
         let S = sized (length m) size in
         program_views m 0 base_page page_there base_narrow ∙ ap (λ (v : List View). set v 0 (whole base_page)) views_clean ∙ some_views (length m / 256) (omega (arith, S.low))
 
-    finished : Begins (world (programmed m 0 base_page) (some (started (length m / 4096) e)) fresh)
+    finished : Begins (world (programmed m 0 base_page) (Some (started (length m / 4096) e)) fresh)
     finished =
         record {
           upheld =

@@ -1,7 +1,7 @@
 -- The pages of a group: their flags, lawfulness, entries; and what the walk makes of them.
 use mathlib.Core.Path.{◌≡◌, refl, sym, ap, ◌∙◌}
 use mathlib.Core.Bool.{Bool, true, false, cond, ◌||◌}
-use mathlib.Core.Option.{some}
+use Rattle.std.proofs.Common.{Some}
 use mathlib.Core.List.{List, [], ◌∷◌, ◌++◌}
 use Prim.Native.Nat.{ℕ, suc, ◌+◌, ◌-◌, ◌*◌, ◌%◌, ◌^◌, ◌≤◌, ◌<◌, min}
 use native.Mathlib.Omega.{arith}
@@ -168,7 +168,7 @@ pub data Opened (kind : ℕ) (w : Walk) (gs : List Group) : List Placed → Type
   unopened : Opened kind w gs []
   opened : {x : Placed} {pages : List Placed} → w ≡ inside gs kind (x ∷ pages) → Opened kind w gs (x ∷ pages)
 
-pub enter_begin : (w : Walk) (gs : List Group) (x : Placed) → groups_of w ≡ some gs → begins x.page ≡ true → enter w x ≡ begun gs x
+pub enter_begin : (w : Walk) (gs : List Group) (x : Placed) → groups_of w ≡ Some gs → begins x.page ≡ true → enter w x ≡ begun gs x
 unfolding enter groups_of
 enter_begin (between gs') gs x g b = rw b (ap (λ (l : List Group). begun l x) (cc))
 enter_begin (inside gs' k pages) gs x g b = rw b (ap (λ (l : List Group). begun l x) (cc))
@@ -183,7 +183,7 @@ enter_more gs k pages x b e h =
     (λ f. rw (b, eq-eqb (kind_of x) k e, f))
 
 -- the next page of a group
-pub enter_page_lem : (kind : ℕ) (w : Walk) (gs : List Group) (es : List Entry) (s₀ s : ℕ) (ps : List ℕ) (p : ℕ) → groups_of w ≡ some gs → Opened kind w gs (lay kind es 0 s₀ ps) → (kind ≡ 1 → length ps < 4)
+pub enter_page_lem : (kind : ℕ) (w : Walk) (gs : List Group) (es : List Entry) (s₀ s : ℕ) (ps : List ℕ) (p : ℕ) → groups_of w ≡ Some gs → Opened kind w gs (lay kind es 0 s₀ ps) → (kind ≡ 1 → length ps < 4)
     → enter w (placed p (group_page kind es (length ps) s)) ≡ joined gs kind (lay kind es 0 s₀ ps ++ (placed p (group_page kind es (length ps) s) ∷ [])) (is_last (length ps) (length es))
 unfolding lay
 enter_page_lem kind w gs es s₀ s [] p g unopened h =

@@ -2,7 +2,7 @@
 -- with the settings, and moving a node leaves the settings as they are.
 use mathlib.Core.Path.{◌≡◌, refl, ap, ◌∙◌}
 use mathlib.Core.Bool.{Bool, true}
-use mathlib.Core.Option.{some}
+use Rattle.std.proofs.Common.{Some}
 use mathlib.Core.List.{List, [], ◌∷◌, ◌++◌}
 use Prim.Native.Nat.{ℕ, suc, ◌-◌, ◌*◌, ◌≤◌}
 use native.Mathlib.Omega.{arith}
@@ -118,12 +118,12 @@ unfolding assign
 all_assign g l e p q = by_cases (is_valve e) (λ f. rw f (all_put g e.key e.val l (p f) q)) (λ f. rw f (all_remove g (e.key - 32768) l q))
 
 -- one entry e whose node is at address a
-pub words_assign : (v : List View) (e : Cell) (a : ℕ) (l : List Cell) → word_at v (cell e.key a) ≡ some e.val → words v (assign l (cell e.key a)) ≡ assign (words v l) e
+pub words_assign : (v : List View) (e : Cell) (a : ℕ) (l : List Cell) → word_at v (cell e.key a) ≡ Some e.val → words v (assign l (cell e.key a)) ≡ assign (words v l) e
 unfolding assign
 words_assign v e a l w =
     by_cases (is_valve e) (λ f. rw f (rw words_put (rw w (unfold value_or in refl)))) (λ f. rw f (words_remove v (e.key - 32768) l))
 
-pub sound_assign : (v : List View) (e : Cell) (a : ℕ) (l : List Cell) → word_at v (cell e.key a) ≡ some e.val → sound v l ≡ true → sound v (assign l (cell e.key a)) ≡ true
+pub sound_assign : (v : List View) (e : Cell) (a : ℕ) (l : List Cell) → word_at v (cell e.key a) ≡ Some e.val → sound v l ≡ true → sound v (assign l (cell e.key a)) ≡ true
 unfolding sound
 sound_assign v e a l w s = all_assign (has_word v) l (cell e.key a) (λ f. rw w (unfold is_some in refl)) s
 

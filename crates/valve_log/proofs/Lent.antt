@@ -1,7 +1,7 @@
 -- The write buffer beside state and history: its bytes are those of the history's buffered groups.
 use mathlib.Core.Path.{◌≡◌, refl, sym, ap, ◌∙◌}
 use mathlib.Core.Bool.{Bool, true, false, cond}
-use mathlib.Core.Option.{Option, none, some}
+use Rattle.std.proofs.Common.{Option, None, Some}
 use mathlib.Core.List.{List, [], ◌∷◌, ◌++◌}
 use Prim.Native.Nat.{ℕ, zero, suc, ◌+◌, ◌≤◌}
 use native.Mathlib.Omega.{arith}
@@ -40,14 +40,14 @@ pub record Lent (s : Held) (b : List ℕ) (h : History) : Type 0 where
 
 -- a state that a cut lost is lent no buffer
 pub data Lending (b : List ℕ) (h : History) : Option Held → Type 0 where
-  lost : Lending b h none
-  kept : {s : Held} → Lent s b h → Lending b h (some s)
+  lost : Lending b h None
+  kept : {s : Held} → Lent s b h → Lending b h (Some s)
 
-pub lent_of : {s : Held} {b : List ℕ} {h : History} → Lending b h (some s) → Lent s b h
+pub lent_of : {s : Held} {b : List ℕ} {h : History} → Lending b h (Some s) → Lent s b h
 lent_of (kept l) = l
 
 -- the groups that the rules see are the history's
-pub lent_gathered : {s : Held} {b : List ℕ} {h : History} → Lent s b h → gathered b ≡ some h.buffered
+pub lent_gathered : {s : Held} {b : List ℕ} {h : History} → Lent s b h → gathered b ≡ Some h.buffered
 lent_gathered {h = h} l = ap gathered l.holds ∙ gathered_holding h.buffered l.fits_in
 
 pub lent_groups : {s : Held} {b : List ℕ} {h : History} → Lent s b h → buffered_in b ≡ h.buffered

@@ -1,7 +1,7 @@
 -- One erase precedes the first page of a new head, and no more.
 use mathlib.Core.Path.{◌≡◌, refl}
 use mathlib.Core.Bool.{Bool, true, false}
-use mathlib.Core.Option.{Option, none, some}
+use Rattle.std.proofs.Common.{Option, None, Some}
 use mathlib.Core.List.{List, [], ◌∷◌}
 use Prim.Native.Nat.{ℕ, ◌<◌}
 use native.Mathlib.Omega.{arith}
@@ -123,8 +123,8 @@ record ErasedFor (m : List ℕ) (b : ℕ) (t : Held) : Type 0 where
 erased_for_at : (m : List ℕ) (o : Option Held) (bs : List ℕ) (h : History) (weak : Weak) (b : ℕ) (t : Held) → Upheld (world m o bs) h → StateReady (views m) o → Kept weak o
     → step_due (world m o bs) ≡ gives (Step.erase b t false) → ErasedFor m b t
 unfolding step_due with_state StateReady Kept
-erased_for_at m none bs h weak b t U r K e = let z : ◌≡◌ {A = ℕ} 0 1 = cc in absurd (omega arith)
-erased_for_at m (some s) bs h weak b t U r K e =
+erased_for_at m None bs h weak b t U r K e = let z : ◌≡◌ {A = ℕ} 0 1 = cc in absurd (omega arith)
+erased_for_at m (Some s) bs h weak b t U r K e =
     record {
       has_record = rw (same, first.after, first.named) (recorded (views m) _ (unfold erasing in now_was s.erased (new_head (views m) s.head) few));
       programs = rw first.after (unfold erasing in first.needs.programs);

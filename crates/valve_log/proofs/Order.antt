@@ -1,7 +1,7 @@
 -- Laws of sorting by serial, of serials that rise by one, of the walk and of the search for the base.
 use mathlib.Core.Path.{◌≡◌, refl}
 use mathlib.Core.Bool.{Bool, true, false, not, ◌&&◌, ◌||◌}
-use mathlib.Core.Option.{none, some}
+use Rattle.std.proofs.Common.{None, Some}
 use mathlib.Core.List.{List, [], ◌∷◌, ◌++◌}
 use Prim.Native.Nat.{ℕ, suc, ◌+◌, ◌≤◌, ◌<◌}
 use native.Mathlib.Omega.{arith}
@@ -337,11 +337,11 @@ base_snoc [] x h = rw (starts_snoc 2 [] x h, empty)
 base_snoc (y ∷ l) x h = rw (base_snoc l x h, starts_snoc 2 (y ∷ l) x h)
 
 -- no base without a begin, and a base where a complete group is the last that begins
-pub base_none : (l : List Placed) → all (opposite is_begin) l ≡ true → base_of l ≡ none
+pub base_none : (l : List Placed) → all (opposite is_begin) l ≡ true → base_of l ≡ None
 unfolding base_of is_some
 base_none [] h = refl
 base_none (x ∷ l) h = rw (base_none l (all_tail (opposite is_begin) x l h), starts_begins 2 x l (all_head (opposite is_begin) x l h))
 
-pub base_group : (x : Placed) (xs : List Placed) → all (opposite is_begin) xs ≡ true → starts_group 2 (x ∷ xs) ≡ true → base_of (x ∷ xs) ≡ some (serial_of x)
+pub base_group : (x : Placed) (xs : List Placed) → all (opposite is_begin) xs ≡ true → starts_group 2 (x ∷ xs) ≡ true → base_of (x ∷ xs) ≡ Some (serial_of x)
 unfolding base_of is_some
 base_group x xs n h = rw (base_none xs n, h)

@@ -1,7 +1,7 @@
 -- Point 3: after every list of calls and power cuts, recovery is accepted and gives the log and the settings of the plain history.
 use mathlib.Core.Path.{◌≡◌, refl}
 use mathlib.Core.Bool.{true}
-use mathlib.Core.Option.{Option, none, some}
+use Rattle.std.proofs.Common.{Option, None, Some}
 use mathlib.Core.List.{List, [], ◌∷◌}
 use Prim.Native.Nat.{ℕ}
 use lib.ListN.{length}
@@ -31,9 +31,9 @@ words_of v [] h = Words.end
 words_of v (x ∷ l) h =
     Words.more {k = x.key} {a = x.val} (has (word_at v x) (all_head (λ (y : Cell). is_some (word_at v y)) x l h)) (words_of v l (all_tail (λ (y : Cell). is_some (word_at v y)) x l h))
   where
-    has : (o : Option ℕ) → is_some o ≡ true → o ≡ some (value_or 0 o)
-    has none e = true_false e (unfold is_some in refl)
-    has (some w) e = unfold value_or in refl
+    has : (o : Option ℕ) → is_some o ≡ true → o ≡ Some (value_or 0 o)
+    has None e = true_false e (unfold is_some in refl)
+    has (Some w) e = unfold value_or in refl
 
 -- and the other way
 pub words_are : (v : List View) {index settings : List Cell} → Words v index settings → words v index ≡ settings

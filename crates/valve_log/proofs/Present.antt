@@ -1,7 +1,7 @@
 -- The nodes of pages that are in the medium: entered into an index, they do to its words what the entries do to the settings.
 use mathlib.Core.Path.{◌≡◌, refl, sym, ap, ◌∙◌}
 use mathlib.Core.Bool.{true}
-use mathlib.Core.Option.{some}
+use Rattle.std.proofs.Common.{Some}
 use mathlib.Core.List.{List, [], ◌∷◌, ◌++◌, append_assoc}
 use Prim.Native.Nat.{ℕ, suc, ◌+◌, ◌*◌, ◌/◌, ◌%◌, ◌≤◌, ◌<◌}
 use native.Mathlib.Omega.{arith}
@@ -46,7 +46,7 @@ present_set {v} p y e (cons {x = x} {l = l} q r) =
 -- ---- one page
 
 node_word : (v : List View) (x : Placed) (l : List Entry) (e : Entry) (r : List Entry) → Present v x
-    → x.page.entries ≡ l ++ (e ∷ r) → word_at v (cell e.key (24 * x.at + length l)) ≡ some e.val
+    → x.page.entries ≡ l ++ (e ∷ r) → word_at v (cell e.key (24 * x.at + length l)) ≡ Some e.val
 unfolding word_at node_in entry_in word_for
 node_word v x l e r p q =
     let n = length-append l (e ∷ r) in

@@ -1,7 +1,7 @@
 -- Refused calls and readings change nothing; a collection alters neither log nor settings; a recovery right after a recovery gives the same.
 use mathlib.Core.Path.{◌≡◌, refl, ap, subst, ◌∙◌}
 use mathlib.Core.Bool.{Bool, true, false, cond}
-use mathlib.Core.Option.{Option, none, some}
+use Rattle.std.proofs.Common.{Option, None, Some}
 use mathlib.Core.List.{List}
 use Prim.Native.Nat.{ℕ}
 use native.Mathlib.Omega.{arith}
@@ -80,9 +80,9 @@ collection_keeps w h s b R e q =
     shows : (w : World) (h : History) → Reached w h → Shows w.medium h
     shows = unfold Point3 in point3
 
-    collects : (o : Option Held) → o ≡ some s → Upheld (world w.medium o w.buffer) h → h.under_way ≡ collecting
-    collects none e U = let z : ◌≡◌ {A = ℕ} 0 1 = cc in absurd (omega arith)
-    collects (some t) e U = let k : t ≡ s = cc in under_way_lem b t.pending (ap (λ (x : Held). x.pending) k ∙ q) (alive_of U.coupled.memory).pends
+    collects : (o : Option Held) → o ≡ Some s → Upheld (world w.medium o w.buffer) h → h.under_way ≡ collecting
+    collects None e U = let z : ◌≡◌ {A = ℕ} 0 1 = cc in absurd (omega arith)
+    collects (Some t) e U = let k : t ≡ s = cc in under_way_lem b t.pending (ap (λ (x : Held). x.pending) k ∙ q) (alive_of U.coupled.memory).pends
 
     u : h.under_way ≡ collecting
     u = collects w.state e (reached_upheld w h R)

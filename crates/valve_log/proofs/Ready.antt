@@ -2,7 +2,7 @@
 use mathlib.Core.Path.{◌≡◌, refl, sym, ap, ◌∙◌}
 use mathlib.Core.Logic.{inl, inr}
 use mathlib.Core.Bool.{Bool, true, false, not}
-use mathlib.Core.Option.{some}
+use Rattle.std.proofs.Common.{Some}
 use mathlib.Core.List.{List, [], ◌∷◌, ◌++◌}
 use Prim.Native.Nat.{ℕ, suc, ◌+◌, ◌-◌, ◌*◌, ◌/◌, ◌≤◌, ◌<◌}
 use native.Mathlib.Omega.{arith}
@@ -107,7 +107,7 @@ pending_fits_lem v h index p u (in_commit k ps pre a b c d g o i) A f = unfold p
 pending_fits_lem v h index p u in_collect A f = unfold pending_fit in f
 pending_fits_lem v h index p u in_flush A f = unfold pending_fit in refl
 
-pub fit_ready : (v : List View) (s : Held) (h : History) → Coupled v (some s) h → Allowed h → Ready v s → fit v s ≡ true
+pub fit_ready : (v : List View) (s : Held) (h : History) → Coupled v (Some s) h → Allowed h → Ready v s → fit v s ≡ true
 unfolding fit head_fit index_fit every
 fit_ready v s h c A r =
     rw (
@@ -245,7 +245,7 @@ appended_more : (s : Held) (es : List Entry) (ps : List ℕ) (p : ℕ) → is_la
 unfolding appended
 appended_more s es ps p e = rw e
 
-module _ (v : List View) (s : Held) (h : History) (c : Coupled v (some s) h) (r : Ready v s) where
+module _ (v : List View) (s : Held) (h : History) (c : Coupled v (Some s) h) (r : Ready v s) where
   abbrev p : ℕ
   p = page_due v s.head
 

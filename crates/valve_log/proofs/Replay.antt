@@ -2,7 +2,7 @@
 -- the state's addresses say.
 use mathlib.Core.Path.{◌≡◌, refl, sym, ap, ◌∙◌}
 use mathlib.Core.Bool.{Bool, true, false}
-use mathlib.Core.Option.{Option, some}
+use Rattle.std.proofs.Common.{Option, Some}
 use mathlib.Core.List.{List, [], ◌∷◌, ◌++◌, append_assoc, append-nil}
 use Prim.Native.Nat.{ℕ, zero, suc, ◌+◌, ◌*◌, ◌/◌, ◌%◌, ◌≤◌}
 use native.Mathlib.Omega.{arith}
@@ -43,7 +43,7 @@ within_left l a b h = and_l (within l a) (within (assign_all l a) b) (sym (withi
 within_right : (l a b : List Cell) → within l (a ++ b) ≡ true → within (assign_all l a) b ≡ true
 within_right l a b h = and_r (within l a) (within (assign_all l a) b) (sym (within_append l a b) ∙ h)
 
-enter_nodes : (k a : ℕ) (l es : List Cell) → eqb k 2 ≡ false → within l (nodes a es) ≡ true → enter_all k a (some l) es ≡ some (assign_all l (nodes a es))
+enter_nodes : (k a : ℕ) (l es : List Cell) → eqb k 2 ≡ false → within l (nodes a es) ≡ true → enter_all k a (Some l) es ≡ Some (assign_all l (nodes a es))
 unfolding enter_all enter_one entering nodes within assign_all
 enter_nodes k a l [] q h = refl
 enter_nodes k a l (e ∷ es) q h =
@@ -54,27 +54,27 @@ enter_nodes k a l (e ∷ es) q h =
 
 -- a group of kind 1 or 3 enters the index whole
 pub enter_group : (k : ℕ) (l : List Cell) (g : List Placed) → eqb k 2 ≡ false → all (λ x. eqb (kind_of x) k) g ≡ true
-    → within l (nodes_of g) ≡ true → enter_pages (some l) g ≡ some (assign_all l (nodes_of g))
+    → within l (nodes_of g) ≡ true → enter_pages (Some l) g ≡ Some (assign_all l (nodes_of g))
 unfolding enter_pages enter_page nodes_of assign_all
 enter_group k l [] q u h = refl
 enter_group k l (x ∷ g) q u h =
     let f : Placed → Bool = λ y. eqb (kind_of y) k in
     let e : kind_of x ≡ k = eqb-true (kind_of x) k (all_head f x g u) in
     let ns : List Cell = nodes (24 * x.at) x.page.entries in
-    let p : enter_all (kind_of x) (24 * x.at) (some l) x.page.entries ≡ some (assign_all l ns) = rw e (enter_nodes k (24 * x.at) l x.page.entries q (within_left l ns (nodes_of g) h)) in
+    let p : enter_all (kind_of x) (24 * x.at) (Some l) x.page.entries ≡ Some (assign_all l ns) = rw e (enter_nodes k (24 * x.at) l x.page.entries q (within_left l ns (nodes_of g) h)) in
     rw (p, assign_append l ns (nodes_of g)) (enter_group k (assign_all l ns) g q (all_tail f x g u) (within_right l ns (nodes_of g) h))
 
 -- ---- a base
 
-enter_stack : (a : ℕ) (l es : List Cell) → rising_from (above l) es ≡ true → length l + length es ≤ most_valves → enter_all 2 a (some l) es ≡ some (l ++ es)
+enter_stack : (a : ℕ) (l es : List Cell) → rising_from (above l) es ≡ true → length l + length es ≤ most_valves → enter_all 2 a (Some l) es ≡ Some (l ++ es)
 unfolding enter_all enter_one stack rising_from
-enter_stack a l [] r h = ap some (sym (append-nil l))
+enter_stack a l [] r h = ap Some (sym (append-nil l))
 enter_stack a l (e ∷ es) r h =
     let p = and_l (leb (above l) e.key) (rising_from (suc e.key) es) r in
     let t = and_r (leb (above l) e.key) (rising_from (suc e.key) es) r in
     let c : suc (length l) ≤ most_valves = omega arith in
     let z : length (l ++ (e ∷ [])) + length es ≤ most_valves = omega (arith, length-append l (e ∷ [])) in
-    rw (p, le-leb (suc (length l)) most_valves c) (enter_stack (suc a) (l ++ (e ∷ [])) es (rw (above_snoc l e) t) z ∙ ap some (append_assoc l (e ∷ []) es))
+    rw (p, le-leb (suc (length l)) most_valves c) (enter_stack (suc a) (l ++ (e ∷ [])) es (rw (above_snoc l e) t) z ∙ ap Some (append_assoc l (e ∷ []) es))
 
 rising_right : (l a b : List Cell) → rising_from (above l) (a ++ b) ≡ true → rising_from (above (l ++ a)) b ≡ true
 unfolding rising_from
@@ -92,17 +92,17 @@ rising_left m (e ∷ a) b h =
 
 -- a base that rises becomes the index
 pub enter_base : (l : List Cell) (g : List Placed) → all (λ x. eqb (kind_of x) 2) g ≡ true → rising_from (above l) (entries_of g) ≡ true
-    → length l + length (entries_of g) ≤ most_valves → enter_pages (some l) g ≡ some (l ++ entries_of g)
+    → length l + length (entries_of g) ≤ most_valves → enter_pages (Some l) g ≡ Some (l ++ entries_of g)
 unfolding enter_pages enter_page entries_of
-enter_base l [] u r h = ap some (sym (append-nil l))
+enter_base l [] u r h = ap Some (sym (append-nil l))
 enter_base l (x ∷ g) u r h =
     let f : Placed → Bool = λ y. eqb (kind_of y) 2 in
     let e : kind_of x ≡ 2 = eqb-true (kind_of x) 2 (all_head f x g u) in
     let es : List Cell = x.page.entries in
     let n = length-append es (entries_of g) in
     let k = length-append l es in
-    let p : enter_all (kind_of x) (24 * x.at) (some l) es ≡ some (l ++ es) = rw e (enter_stack (24 * x.at) l es (rising_left (above l) es (entries_of g) r) (omega arith)) in
-    rw p (enter_base (l ++ es) g (all_tail f x g u) (rising_right l es (entries_of g) r) (omega arith) ∙ ap some (append_assoc l es (entries_of g)))
+    let p : enter_all (kind_of x) (24 * x.at) (Some l) es ≡ Some (l ++ es) = rw e (enter_stack (24 * x.at) l es (rising_left (above l) es (entries_of g) r) (omega arith)) in
+    rw p (enter_base (l ++ es) g (all_tail f x g u) (rising_right l es (entries_of g) r) (omega arith) ∙ ap Some (append_assoc l es (entries_of g)))
 
 -- ---- the state's addresses are the nodes of the pages laid out
 

@@ -1,6 +1,6 @@
 -- What a reading of the settings meets on a medium reached.
 use mathlib.Core.Path.{◌≡◌}
-use mathlib.Core.Option.{Option, none, some}
+use Rattle.std.proofs.Common.{Option, None, Some}
 use mathlib.Core.List.{List}
 use Prim.Native.Nat.{ℕ}
 use native.Mathlib.Omega.{arith}
@@ -20,9 +20,9 @@ pub stands : StandsReached
 unfolding StandsReached
 stands w h s R e = told w.medium w.buffer w.state (reached_upheld w h R) (reached_ready w h R) (reached_allowed w h R) e
   where
-    told : (m bs : List ℕ) (o : Option Held) → Upheld (world m o bs) h → StateReady (views m) o → StateAllowed o h → o ≡ some s → Stands m s h
-    told m bs none U r A e = let z : ◌≡◌ {A = ℕ} 0 1 = cc in absurd (omega arith)
-    told m bs (some t) U r A e =
+    told : (m bs : List ℕ) (o : Option Held) → Upheld (world m o bs) h → StateReady (views m) o → StateAllowed o h → o ≡ Some s → Stands m s h
+    told m bs None U r A e = let z : ◌≡◌ {A = ℕ} 0 1 = cc in absurd (omega arith)
+    told m bs (Some t) U r A e =
         let q : t ≡ s = cc in
         let r' : Ready (views m) t = unfold StateReady in r in
         rw (← q) (standing m t bs h U r' (unfold StateAllowed in A))

@@ -1,7 +1,7 @@
 -- What holds of the medium at every moment, with or without the state, and that recovery then gives the history.
 use mathlib.Core.Path.{◌≡◌, ap, ◌∙◌}
 use mathlib.Core.Bool.{true}
-use mathlib.Core.Option.{some}
+use Rattle.std.proofs.Common.{Some}
 use mathlib.Core.List.{List, [], ◌∷◌, ◌++◌}
 use Prim.Native.Nat.{ℕ, suc, ◌+◌, ◌-◌, ◌/◌, ◌≤◌, ◌<◌}
 use native.Mathlib.Omega.{arith}
@@ -33,9 +33,9 @@ pub record Sound (v : List View) (log : List (List Entry)) (settings : List Sett
   pub some_page : 1 ≤ length ch
   pub chained : sort (from b (wholes 0 v)) ≡ ch
   pub rises : consecutive b ch ≡ true
-  pub based : base_of ch ≡ some b
-  pub walks : groups_of (walk (between []) ch) ≡ some gs
-  pub replays : enter_pages (some []) (pages_of gs) ≡ some idx
+  pub based : base_of ch ≡ Some b
+  pub walks : groups_of (walk (between []) ch) ≡ Some gs
+  pub replays : enter_pages (Some []) (pages_of gs) ≡ Some idx
   pub logs : log_of gs ≡ log
   pub sounds : sound v idx ≡ true
   pub shows : words v idx ≡ settings
@@ -47,7 +47,7 @@ module _ {v : List View} {log : List (List Entry)} {settings : List Setting} {b 
   pub split : sort (wholes 0 v) ≡ sort (upto b (wholes 0 v)) ++ ch
   split = sort_split b (wholes 0 v) ∙ ap (λ (l : List Placed). sort (upto b (wholes 0 v)) ++ l) S.chained
 
-  found_base : base_of (sort (wholes 0 v)) ≡ some b
+  found_base : base_of (sort (wholes 0 v)) ≡ Some b
   found_base = rw split (base_append (sort (upto b (wholes 0 v))) ch b S.based)
 
   pub base_is : base v ≡ b
@@ -58,11 +58,11 @@ module _ {v : List View} {log : List (List Entry)} {settings : List Setting} {b 
   unfolding chain
   chain_is = rw base_is (from_sort b (wholes 0 v) ∙ S.chained)
 
-  groups_are : groups v ≡ some gs
+  groups_are : groups v ≡ Some gs
   unfolding groups
   groups_are = rw chain_is S.walks
 
-  replayed_is : replayed v ≡ some idx
+  replayed_is : replayed v ≡ Some idx
   unfolding replayed value_or
   replayed_is = rw groups_are S.replays
 

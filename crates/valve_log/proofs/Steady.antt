@@ -1,7 +1,7 @@
 -- On a reached medium, with the state last handed back, no call answers 1, 6, 7 or 16.
 use mathlib.Core.Path.{◌≡◌, refl, sym, ap, subst, ◌∙◌}
 use mathlib.Core.Bool.{Bool, true}
-use mathlib.Core.Option.{Option, none, some}
+use Rattle.std.proofs.Common.{Option, None, Some}
 use mathlib.Core.List.{List, [], ◌∷◌, ◌++◌}
 use Prim.Native.Nat.{ℕ, zero, suc, ◌+◌, ◌*◌, ◌/◌, ◌%◌, ◌≤◌, ◌<◌}
 use native.Mathlib.Omega.{arith}
@@ -51,12 +51,12 @@ use Rattle.valve_log.proofs.Ready.{Left, pending_well, Ready, fit_ready, sound_p
 
 -- a state that is there is ready
 unfoldable pub StateReady : List View → Option Held → Type 0
-StateReady v none = Unit {0}
-StateReady v (some s) = Ready v s
+StateReady v None = Unit {0}
+StateReady v (Some s) = Ready v s
 
 -- ---- operations begun
 
-module _ (n : ℕ) (v : List View) (s : Held) (bs : List ℕ) (h : History) (c : Coupled v (some s) h) (r : Ready v s) where
+module _ (n : ℕ) (v : List View) (s : Held) (bs : List ℕ) (h : History) (c : Coupled v (Some s) h) (r : Ready v s) where
   begun_ready : (pend : Pending) → pending_well v s.head s.index pend ≡ true → Left v s.head s.index pend → Ready v (starting s pend)
   begun_ready pend f l = record { size = r.size; heads = r.heads; pend = f; left = l }
 
@@ -172,21 +172,21 @@ starts_ready w B = rw B.holds (unfold StateReady in ready)
 
 -- ---- any event
 
-module _ (m : List ℕ) (s : Held) (bs : List ℕ) (h : History) (U : Upheld (world m (some s) bs) h) (r : Ready (views m) s) where
+module _ (m : List ℕ) (s : Held) (bs : List ℕ) (h : History) (U : Upheld (world m (Some s) bs) h) (r : Ready (views m) s) where
   call_ready : (t : Told) (cs : List Need) (s' : Held) → (every (tests cs) ≡ true → Ready (views m) s')
-      → StateReady (views (called (world m (some s) bs) t (checked cs s')).after.medium) (called (world m (some s) bs) t (checked cs s')).after.state
+      → StateReady (views (called (world m (Some s) bs) t (checked cs s')).after.medium) (called (world m (Some s) bs) t (checked cs s')).after.state
   call_ready t cs s' f =
-      checked_cases (λ (c : Answer Held). StateReady (views (called (world m (some s) bs) t c).after.medium) (called (world m (some s) bs) t c).after.state) cs (gives s')
+      checked_cases (λ (c : Answer Held). StateReady (views (called (world m (Some s) bs) t c).after.medium) (called (world m (Some s) bs) t c).after.state) cs (gives s')
       (λ n. unfold called StateReady in r) (λ e. unfold called StateReady in f e)
 
   buffer_ready : (t : Told) (cs : List Need) (b : List ℕ)
-      → StateReady (views (filled (world m (some s) bs) t (checked cs b)).after.medium) (filled (world m (some s) bs) t (checked cs b)).after.state
+      → StateReady (views (filled (world m (Some s) bs) t (checked cs b)).after.medium) (filled (world m (Some s) bs) t (checked cs b)).after.state
   buffer_ready t cs b =
-      checked_cases (λ (c : Answer (List ℕ)). StateReady (views (filled (world m (some s) bs) t c).after.medium) (filled (world m (some s) bs) t c).after.state) cs (gives b)
+      checked_cases (λ (c : Answer (List ℕ)). StateReady (views (filled (world m (Some s) bs) t c).after.medium) (filled (world m (Some s) bs) t c).after.state) cs (gives b)
       (λ n. unfold filled StateReady in r) (λ e. unfold filled StateReady in r)
 
   abbrev SteppedReady : Answer Step → Type 0
-  SteppedReady st = StateReady (views (stepped (world m (some s) bs) st).after.medium) (stepped (world m (some s) bs) st).after.state
+  SteppedReady st = StateReady (views (stepped (world m (Some s) bs) st).after.medium) (stepped (world m (Some s) bs) st).after.state
 
   stepped_ready : (st : Answer Step) → Good (views m) s bs h st → StepReady (views m) st → SteppedReady st
   unfolding stepped medium_after Good StepReady StateReady
@@ -226,27 +226,27 @@ cut_ready w left (gives (Step.erase b s finished)) = tt
 event_ready : (m : List ℕ) (s : Option Held) (b : List ℕ) (h : History) (e : Event (world m s b)) → Upheld (world m s b) h → StateReady (views m) s
     → StateReady (views (happen (world m s b) e).after.medium) (happen (world m s b) e).after.state
 unfolding happen with_state step_due
-event_ready m none b h (Event.append ks ws x y) U r = r
-event_ready m (some s) b h (Event.append ks ws x y) U r =
+event_ready m None b h (Event.append ks ws x y) U r = r
+event_ready m (Some s) b h (Event.append ks ws x y) U r =
     unfold append_of StateReady in call_ready m s b h U r (began_append (zip ks ws)) (append_needs (length m) (views m) s b ks ws)
     (starting s (append (zip ks ws) []))
     (λ e. append_begun (length m) (views m) s b h U.coupled r ks ws
     (unfold tests in every_at 4 _ e) (unfold tests in every_at 6 _ e) (unfold tests in every_at 7 _ e))
-event_ready m none b h Event.commit U r = r
-event_ready m (some s) b h Event.commit U r =
+event_ready m None b h Event.commit U r = r
+event_ready m (Some s) b h Event.commit U r =
     unfold commit_of StateReady in call_ready m s b h U r began_commit (commit_needs (length m) (views m) s b) (starting s (commit 0)) (commit_begun (length m) (views m) s b h U.coupled r)
-event_ready m none b h (Event.collect k) U r = r
-event_ready m (some s) b h (Event.collect k) U r =
+event_ready m None b h (Event.collect k) U r = r
+event_ready m (Some s) b h (Event.collect k) U r =
     unfold collect_of StateReady in call_ready m s b h U r began_collect (collect_needs (length m) (views m) s b k) (starting s (collect k)) (collect_begun (length m) (views m) s b h U.coupled r k)
-event_ready m none b h (Event.buffer ks ws x y) U r = r
-event_ready m (some s) b h (Event.buffer ks ws x y) U r =
+event_ready m None b h (Event.buffer ks ws x y) U r = r
+event_ready m (Some s) b h (Event.buffer ks ws x y) U r =
     unfold buffer_of StateReady in buffer_ready m s b h U r (put_in (zip ks ws)) (buffer_needs (length m) (views m) s b ks ws) (holding (buffered_in b ++ (zip ks ws ∷ [])))
-event_ready m none b h Event.flush U r = r
-event_ready m (some s) b h Event.flush U r =
+event_ready m None b h Event.flush U r = r
+event_ready m (Some s) b h Event.flush U r =
     unfold flush_of StateReady in call_ready m s b h U r began_flush (flush_needs (length m) (views m) s b) (starting s flush)
     (λ e. flush_begun (length m) (views m) s b h U.coupled r (unfold tests in every_at 6 _ e))
-event_ready m none b h Event.step U r = unfold stepped in r
-event_ready m (some s) b h Event.step U r = unfold step_of StateReady in step_kept m s b h U r _ (unfold step_of in due_good m s b h U)
+event_ready m None b h Event.step U r = unfold stepped in r
+event_ready m (Some s) b h Event.step U r = unfold step_of StateReady in step_kept m s b h U r _ (unfold step_of in due_good m s b h U)
 event_ready m s b h Event.recover U r = recover_ready m s b h U
 event_ready m s b h Event.read U r = r
 event_ready m s b h Event.cut U r = unfold StateReady in tt
@@ -257,22 +257,22 @@ earlier_ready : (m : List ℕ) (s : Option Held) (b : List ℕ) (h : History) (e
     → StateReady (views m) s → StateReady (views (happened (world m s b) e).after.medium) (happened (world m s b) e).after.state
 unfolding happened with_state step_due_before with11 tests
 earlier_ready m s b h (Earlier.same e) U r = event_ready m s b h e U r
-earlier_ready m none b h (Earlier.append ks ws x y) U r = r
-earlier_ready m (some s) b h (Earlier.append ks ws x y) U r =
+earlier_ready m None b h (Earlier.append ks ws x y) U r = r
+earlier_ready m (Some s) b h (Earlier.append ks ws x y) U r =
     unfold append_before StateReady in
     call_ready m s b h U r (began_append (zip ks ws)) (with11 (zip ks ws) (append_needs (length m) (views m) s b ks ws)) (starting s (append (zip ks ws) []))
     (λ e. append_begun (length m) (views m) s b h U.coupled r ks ws (every_at 4 _ e) (every_at 6 _ e) (every_at 7 _ e))
-earlier_ready m none b h (Earlier.buffer ks ws x y) U r = r
-earlier_ready m (some s) b h (Earlier.buffer ks ws x y) U r =
+earlier_ready m None b h (Earlier.buffer ks ws x y) U r = r
+earlier_ready m (Some s) b h (Earlier.buffer ks ws x y) U r =
     unfold buffer_before StateReady in
     buffer_ready m s b h U r (put_in (zip ks ws)) (with11 (zip ks ws) (buffer_needs (length m) (views m) s b ks ws)) (holding (buffered_in b ++ (zip ks ws ∷ [])))
-earlier_ready m none b h Earlier.flush U r = r
-earlier_ready m (some s) b h Earlier.flush U r =
+earlier_ready m None b h Earlier.flush U r = r
+earlier_ready m (Some s) b h Earlier.flush U r =
     unfold flush_before StateReady in
     call_ready m s b h U r began_flush (with11 (changes_of (buffered_in b)) (flush_needs (length m) (views m) s b)) (starting s flush)
     (λ e. flush_begun (length m) (views m) s b h U.coupled r (every_at 6 _ e))
-earlier_ready m none b h Earlier.step U r = unfold stepped in r
-earlier_ready m (some s) b h Earlier.step U r =
+earlier_ready m None b h Earlier.step U r = unfold stepped in r
+earlier_ready m (Some s) b h Earlier.step U r =
     unfold step_before StateReady in step_kept m s b h U r _ (unfold step_before in due_before m s b h U)
 earlier_ready m s b h (Earlier.cut_inside left c) U r = cut_ready (world m s b) left (step_due_before (world m s b))
 
@@ -325,7 +325,7 @@ in_lookup valve (x ∷ l) e =
     here : valve ≡ x.key → In (cell valve x.val) (x ∷ l)
     here q = rw q first
 
-module _ (m : List ℕ) (s : Held) (bs : List ℕ) (h : History) (U : Upheld (world m (some s) bs) h) (r : Ready (views m) s) (A : Allowed h) where
+module _ (m : List ℕ) (s : Held) (bs : List ℕ) (h : History) (U : Upheld (world m (Some s) bs) h) (r : Ready (views m) s) (A : Allowed h) where
   abbrev v : List View
   v = views m
 
@@ -412,8 +412,8 @@ module _ (m : List ℕ) (s : Held) (bs : List ℕ) (h : History) (U : Upheld (wo
   word_answers valve = go (last_naming valve 0 (changes_of (buffered_in bs)))
     where
       go : (o : Option ℕ) → expected (refusal_of (need 1 (size_ok (length m)) ∷ need 7 (fit_with v s bs) ∷ (sought_in v s bs valve o).needs)) ≡ true
-      go (some i) = by_cases (sets_at (changes_of (buffered_in bs)) i) (λ e. rw (U.size, fits_with, e)) (λ e. rw (U.size, fits_with, e))
-      go none =
+      go (Some i) = by_cases (sets_at (changes_of (buffered_in bs)) i) (λ e. rw (U.size, fits_with, e)) (λ e. rw (U.size, fits_with, e))
+      go None =
           by_cases (is_some (lookup valve s.index)) (λ e. rw (U.size, fits_with, e, has_word valve e)) (λ e. rw (U.size, fits_with, e))
 
 -- ---- the theorem
@@ -422,9 +422,9 @@ pub steady : Steady
 unfolding Steady
 steady w h s R e = answers w.medium w.buffer w.state (reached_upheld w h R) (reached_ready w h R) (reached_allowed w h R) e
   where
-    answers : (m bs : List ℕ) (o : Option Held) → Upheld (world m o bs) h → StateReady (views m) o → StateAllowed o h → o ≡ some s → Answers m s bs
-    answers m bs none U r A e = let z : ◌≡◌ {A = ℕ} 0 1 = cc in absurd (omega arith)
-    answers m bs (some t) U r A e =
+    answers : (m bs : List ℕ) (o : Option Held) → Upheld (world m o bs) h → StateReady (views m) o → StateAllowed o h → o ≡ Some s → Answers m s bs
+    answers m bs None U r A e = let z : ◌≡◌ {A = ℕ} 0 1 = cc in absurd (omega arith)
+    answers m bs (Some t) U r A e =
         let q : t ≡ s = cc in
         let r' : Ready (views m) t = unfold StateReady in r in
         let A' : Allowed h = unfold StateAllowed in A in

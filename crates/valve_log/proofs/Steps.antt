@@ -1,7 +1,7 @@
 -- One page more: the coupling after a page of an append, of a commit and of a collection.
 use mathlib.Core.Path.{◌≡◌, refl, sym, ap, subst, ◌∙◌}
 use mathlib.Core.Bool.{Bool, true, false, ◌&&◌}
-use mathlib.Core.Option.{Option, some}
+use Rattle.std.proofs.Common.{Option, Some}
 use mathlib.Core.List.{List, [], ◌∷◌, ◌++◌, append_assoc, append-nil}
 use Prim.Native.Nat.{ℕ, suc, ◌+◌, ◌-◌, ◌*◌, ◌^◌, ◌≤◌, ◌<◌}
 use native.Mathlib.Omega.{arith}
@@ -97,9 +97,9 @@ goes_laid es k s q (r ∷ qs) h e =
           (goes_laid es (suc k) (suc s) r qs (omega arith) (rw z at e)),
     ) (unfold group_page in rw (eq-eqb s s refl))
 
-base_laid : (es : List Entry) (f q : ℕ) (qs : List ℕ) → is_last (length qs) (length es) ≡ true → base_of (lay 2 es 0 f (q ∷ qs)) ≡ some f
+base_laid : (es : List Entry) (f q : ℕ) (qs : List ℕ) → is_last (length qs) (length es) ≡ true → base_of (lay 2 es 0 f (q ∷ qs)) ≡ Some f
 unfolding lay
-base_laid es f q qs e = base_group (placed q (group_page 2 es 0 f)) (lay 2 es 1 (suc f) qs) (lay_begins 2 es 1 (suc f) qs (omega arith)) (starts qs e) ∙ ap some (page_serial 2 es 0 f)
+base_laid es f q qs e = base_group (placed q (group_page 2 es 0 f)) (lay 2 es 1 (suc f) qs) (lay_begins 2 es 1 (suc f) qs (omega arith)) (starts qs e) ∙ ap Some (page_serial 2 es 0 f)
   where
     starts : (qs : List ℕ) → is_last (length qs) (length es) ≡ true → starts_group 2 (placed q (group_page 2 es 0 f) ∷ lay 2 es 1 (suc f) qs) ≡ true
     starts [] e = starts_one 2 (placed q (group_page 2 es 0 f)) (lay 2 es 1 (suc f) []) (unfold group_page in refl) (unfold is_begin in begins_page 2 es 0 f) (ends_page 2 es 0 f ∙ e)
@@ -138,10 +138,10 @@ module _ (kind : ℕ) (es : List Entry) (ps : List ℕ) (f p serial : ℕ) (firs
     laid_nodes = addressed_laid es f kind (ps ++ (p ∷ [])) enough ∙ ap nodes_of laid_is
 
     -- the index as a list laid out whole is a base
-    laid_base : kind ≡ 2 → base_of (laid kind es ps f p serial) ≡ some f
+    laid_base : kind ≡ 2 → base_of (laid kind es ps f p serial) ≡ Some f
     laid_base k = rw (← laid_is, k) (go ps refl)
       where
-        go : (qs : List ℕ) → ps ≡ qs → base_of (lay 2 es 0 f (ps ++ (p ∷ []))) ≡ some f
+        go : (qs : List ℕ) → ps ≡ qs → base_of (lay 2 es 0 f (ps ++ (p ∷ []))) ≡ Some f
         go [] q = rw q (base_laid es f p [] (rw q at e))
         go (r ∷ qs) q =
             let n : length (qs ++ (p ∷ [])) ≡ length (r ∷ qs) = omega (arith, length-append qs (p ∷ [])) in
@@ -174,7 +174,7 @@ serial_ok_lem n a b = let m : n ≤ 2 ^ 64 - 2 = omega arith in rw (le-leb 1 n a
 module _ (v : List View) (s : Held) (h : History) {ch : List Placed} {gs : List Group}
     (S : Sound v h.log h.settings s.head.base ch gs s.index) (ser : s.head.serial ≡ s.head.base + length ch) where
   -- the group stays open
-  longer : (p : ℕ) (pg : Page) → is_clean (seen v p) ≡ true → lawful pg ≡ true → pg.serial ≡ s.head.serial → groups_of (walk (between []) (ch ++ (placed p pg ∷ []))) ≡ some gs
+  longer : (p : ℕ) (pg : Page) → is_clean (seen v p) ≡ true → lawful pg ≡ true → pg.serial ≡ s.head.serial → groups_of (walk (between []) (ch ++ (placed p pg ∷ []))) ≡ Some gs
       → (eqb pg.kind 2 && ends pg) ≡ false → Sound (set v p (whole pg)) h.log h.settings s.head.base (ch ++ (placed p pg ∷ [])) gs s.index
   longer p pg c l e w k =
       let g = grown S p pg c l (e ∙ ser) in
@@ -222,11 +222,11 @@ module _ (v : List View) (s : Held) (h : History) {ch : List Placed} {gs : List 
         tidy = tidy_assign s.index (nodes_of grp.pages) wi S.tidy;
       }
     where
-      replayed : enter_pages (some []) (pages_of (gs ++ (grp ∷ []))) ≡ some (assign_all s.index (nodes_of grp.pages))
+      replayed : enter_pages (Some []) (pages_of (gs ++ (grp ∷ []))) ≡ Some (assign_all s.index (nodes_of grp.pages))
       replayed =
           let a : pages_of (grp ∷ []) ≡ grp.pages = unfold pages_of in append-nil grp.pages in
-          ap (enter_pages (some [])) (pages_append gs (grp ∷ []) ∙ ap (λ (z : List Placed). pages_of gs ++ z) a)
-          ∙ enter_pages_append (some []) (pages_of gs) grp.pages
+          ap (enter_pages (Some [])) (pages_append gs (grp ∷ []) ∙ ap (λ (z : List Placed). pages_of gs ++ z) a)
+          ∙ enter_pages_append (Some []) (pages_of gs) grp.pages
           ∙ ap (λ (o : Option (List Place)). enter_pages o grp.pages) S.replays
           ∙ enter_group grp.kind s.index grp.pages k' kinds wi
 
@@ -271,7 +271,7 @@ module _ (v : List View) (s : Held) (h : History) {ch : List Placed} {gs : List 
         present_snoc (present_set p (whole pg) cleans presents)
         (record { there = seen_set v p (whole pg) (clean_in v p cleans); bears = unfold sets_valves group_page in refl; short = page_most 1 es (length ps) serial })
 
-    pub ap_more : is_last (length ps) (length es) ≡ false → Coupled (set v p (whole pg)) (some (appended s es ps p)) (counted h (appending es left))
+    pub ap_more : is_last (length ps) (length es) ≡ false → Coupled (set v p (whole pg)) (Some (appended s es ps p)) (counted h (appending es left))
     unfolding appended head_after
     ap_more e =
         let n = more_left (length es) (length ps) left ap_lefts e in
@@ -297,7 +297,7 @@ module _ (v : List View) (s : Held) (h : History) {ch : List Placed} {gs : List 
               });
         })
 
-    pub ap_last : is_last (length ps) (length es) ≡ true → Coupled (set v p (whole pg)) (some (appended s es ps p)) (counted h (appending es left))
+    pub ap_last : is_last (length ps) (length es) ≡ true → Coupled (set v p (whole pg)) (Some (appended s es ps p)) (counted h (appending es left))
     unfolding appended head_after
     ap_last e =
         let n = last_left (length es) (length ps) left ap_lefts ap_fewer e in
@@ -337,7 +337,7 @@ module _ (v : List View) (s : Held) (h : History) {ch : List Placed} {gs : List 
       (split : ch ≡ pre ++ lay 2 s.index 0 f ps)
       (openeds : Opened 2 (walk (between []) ch) gs (lay 2 s.index 0 f ps))
       (alone : Opened 2 (walk (between []) (lay 2 s.index 0 f ps)) [] (lay 2 s.index 0 f ps))
-      (alone-groups : groups_of (walk (between []) (lay 2 s.index 0 f ps)) ≡ some [])
+      (alone-groups : groups_of (walk (between []) (lay 2 s.index 0 f ps)) ≡ Some [])
       (facts : Fits v s) (fewer : length ps < base_pages (length s.index)) (room : s.head.serial + 1 ≤ 2 ^ 64 - 1) (cleans : is_clean (seen v p) ≡ true) where
     abbrev now : ℕ
     now = s.head.serial
@@ -365,7 +365,7 @@ module _ (v : List View) (s : Held) (h : History) {ch : List Placed} {gs : List 
     cm_split : ch ++ (placed p bp ∷ []) ≡ pre ++ stored
     cm_split = ap (λ (t : List Placed). t ++ (placed p bp ∷ [])) split ∙ append_assoc pre (lay 2 s.index 0 f ps) (placed p bp ∷ [])
 
-    pub cm_more : is_last (length ps) (length s.index) ≡ false → Coupled (set v p (whole bp)) (some (committed s (length ps) p)) (counted h (committing left))
+    pub cm_more : is_last (length ps) (length s.index) ≡ false → Coupled (set v p (whole bp)) (Some (committed s (length ps) p)) (counted h (committing left))
     unfolding committed head_after
     cm_more e =
         let n = more_left (length s.index) (length ps) left lefts e in
@@ -432,15 +432,15 @@ module _ (v : List View) (s : Held) (h : History) {ch : List Placed} {gs : List 
         entries_are : entries_of stored ≡ s.index
         entries_are = laid_entries 2 s.index ps f p now firsts e
 
-        replayed : enter_pages (some []) (pages_of (group 2 stored ∷ [])) ≡ some s.index
+        replayed : enter_pages (Some []) (pages_of (group 2 stored ∷ [])) ≡ Some s.index
         replayed =
             let a : pages_of (group 2 stored ∷ []) ≡ stored = unfold pages_of in append-nil stored in
             let n : 0 + length (entries_of stored) ≤ 192 = rw entries_are (let z = facts.count in omega arith) in
-            ap (enter_pages (some [])) a
+            ap (enter_pages (Some [])) a
             ∙ enter_base [] stored (laid_kind 2 s.index ps f p now firsts) (unfold above rising in (rw entries_are (unfold rising in facts.rise))) n
-            ∙ ap some entries_are
+            ∙ ap Some entries_are
 
-    pub cm_last : is_last (length ps) (length s.index) ≡ true → Coupled (set v p (whole bp)) (some (committed s (length ps) p)) (counted h (committing left))
+    pub cm_last : is_last (length ps) (length s.index) ≡ true → Coupled (set v p (whole bp)) (Some (committed s (length ps) p)) (counted h (committing left))
     unfolding committed head_after
     cm_last e =
         let n = last_left (length s.index) (length ps) left lefts fewer e in
@@ -498,7 +498,7 @@ module _ (v : List View) (s : Held) (h : History) {ch : List Placed} {gs : List 
     cl_present : PresentAll (set v p (whole mp)) (placed p mp ∷ [])
     cl_present = cons (record { there = seen_set v p (whole mp) (clean_in v p cleans); bears = unfold sets_valves in refl; short = omega (arith, words_length v moves) }) nil
 
-    pub cl_more : Coupled (set v p (whole mp)) (some (collected s blk moves p)) h
+    pub cl_more : Coupled (set v p (whole mp)) (Some (collected s blk moves p)) h
     unfolding collected head_after
     cl_more =
         record {
@@ -549,7 +549,7 @@ module _ (v : List View) (s : Held) (h : History) {ch : List Placed} {gs : List 
     unfolding log_of log_of_group enters_log groups_on_pages
     fl_log = ap (λ (z : List (List Entry)). h.log ++ z) (append-nil (groups_in fp ++ []) ∙ append-nil (groups_in fp) ∙ groups_back s.head.serial small fitting)
 
-    pub fl_last : Coupled (set v p (whole fp)) (some (flushed s small p)) (counted h (flushing small 1))
+    pub fl_last : Coupled (set v p (whole fp)) (Some (flushed s small p)) (counted h (flushing small 1))
     unfolding flushed head_after counted
     fl_last =
         record {

@@ -1,7 +1,7 @@
 -- The list of the program as it was before Paper 8 keeps the invariant: its events that differ from today's do.
 use mathlib.Core.Path.{◌≡◌, refl}
 use mathlib.Core.Bool.{true, not, ◌||◌}
-use mathlib.Core.Option.{Option, none, some}
+use Rattle.std.proofs.Common.{Option, None, Some}
 use mathlib.Core.List.{List, [], ◌∷◌}
 use Prim.Native.Nat.{ℕ}
 use lib.Dec.{ltb, eqb}
@@ -79,7 +79,7 @@ before_cases P n v s b r g =
 
 -- ---- any such event
 
-module _ (m : List ℕ) (s : Held) (b : List ℕ) (h : History) (U : Upheld (world m (some s) b) h) where
+module _ (m : List ℕ) (s : Held) (b : List ℕ) (h : History) (U : Upheld (world m (Some s) b) h) where
   pub due_before : Good (views m) s b h (step_before (length m) (views m) s b)
   due_before =
       before_cases (Good (views m) s b h) (length m) (views m) s b (refused_good (views m) s b h)
@@ -88,19 +88,19 @@ module _ (m : List ℕ) (s : Held) (b : List ℕ) (h : History) (U : Upheld (wor
 happened_good : (m : List ℕ) (s : Option Held) (b : List ℕ) (h : History) (e : Earlier (world m s b)) → Upheld (world m s b) h → Follows h (happened (world m s b) e)
 unfolding happened with_state step_due_before append_before buffer_before flush_before with11 tests
 happened_good m s b h (Earlier.same e) U = happen_good m s b h e U
-happened_good m none b h (Earlier.append ks ws x y) U = unfold tell in U
-happened_good m (some s) b h (Earlier.append ks ws x y) U =
+happened_good m None b h (Earlier.append ks ws x y) U = unfold tell in U
+happened_good m (Some s) b h (Earlier.append ks ws x y) U =
     append_good m s b h U ks ws (with11 (zip ks ws) (append_needs (length m) (views m) s b ks ws)) (λ e. every_at 3 _ e) x y
-happened_good m none b h (Earlier.buffer ks ws x y) U = unfold tell in U
-happened_good m (some s) b h (Earlier.buffer ks ws x y) U =
+happened_good m None b h (Earlier.buffer ks ws x y) U = unfold tell in U
+happened_good m (Some s) b h (Earlier.buffer ks ws x y) U =
     buffer_good m s b h U ks ws (with11 (zip ks ws) (buffer_needs (length m) (views m) s b ks ws))
     (λ e. record { rests = every_at 2 _ e; lists = every_at 3 _ e; lawfuls = before_lawful 4 refl (zip ks ws) (every_at 4 _ e); counts = every_at 5 _ e; places = every_at 6 _ e }) x y
-happened_good m none b h Earlier.flush U = unfold tell in U
-happened_good m (some s) b h Earlier.flush U = flush_good m s b h U (with11 _ (flush_needs (length m) (views m) s b)) (λ e. every_at 3 _ e)
-happened_good m none b h Earlier.step U = unfold stepped tell in U
-happened_good m (some s) b h Earlier.step U = step_goes m s b h U (step_before (length m) (views m) s b) (due_before m s b h U)
-happened_good m none b h (Earlier.cut_inside left c) U = absurd (unfold CutOf in c)
-happened_good m (some s) b h (Earlier.cut_inside left c) U = cut_goes m s b h U (step_before (length m) (views m) s b) (due_before m s b h U) left c
+happened_good m None b h Earlier.flush U = unfold tell in U
+happened_good m (Some s) b h Earlier.flush U = flush_good m s b h U (with11 _ (flush_needs (length m) (views m) s b)) (λ e. every_at 3 _ e)
+happened_good m None b h Earlier.step U = unfold stepped tell in U
+happened_good m (Some s) b h Earlier.step U = step_goes m s b h U (step_before (length m) (views m) s b) (due_before m s b h U)
+happened_good m None b h (Earlier.cut_inside left c) U = absurd (unfold CutOf in c)
+happened_good m (Some s) b h (Earlier.cut_inside left c) U = cut_goes m s b h U (step_before (length m) (views m) s b) (due_before m s b h U) left c
 
 pub before_upheld : (w : World) (h : History) → Before w h → Upheld w h
 before_upheld w h (Before.start v F e) = (starts v.medium v.buffer v.state (in_format v F) e).upheld

@@ -1,7 +1,7 @@
 -- A list of the program as it was before Paper 8 that sets valve 0: formatting, the append of one entry, and its step.
 use mathlib.Core.Path.{◌≡◌, refl, ap, subst, ◌∙◌}
 use mathlib.Core.Bool.{Bool, true}
-use mathlib.Core.Option.{Option, some}
+use Rattle.std.proofs.Common.{Option, Some}
 use mathlib.Core.List.{List, [], ◌∷◌}
 use Prim.Native.Nat.{ℕ, zero, suc, ◌/◌, ◌^◌, ◌≤◌, ◌<◌}
 use native.Mathlib.Omega.{arith}
@@ -73,18 +73,18 @@ one_below n k z l = record { each = at }
 -- from where formatting is finished
 module _ (m : List ℕ) (e : List Bool) (word : ℕ) (small : word < 2 ^ 64) (long : length m ≡ 16384) (sees : views m ≡ four) where
   abbrev first : World
-  first = world m (some (started 4 e)) fresh
+  first = world m (Some (started 4 e)) fresh
 
   appending : Earlier first
   appending =
       Earlier.append (0 ∷ []) (word ∷ []) (one_below (2 ^ 16) 0 (omega arith) (omega arith)) (one_below (2 ^ 64) word (omega arith) small)
 
-  appended_is : happened first appending ≡ moment m (some (begun word e)) fresh (began_append (zero_to word))
+  appended_is : happened first appending ≡ moment m (Some (begun word e)) fresh (began_append (zero_to word))
   unfolding appending happened with_state called zip
   appended_is = rw (long, sees, begins word e)
 
-  stepped_is : happened (world m (some (begun word e)) fresh) Earlier.step
-      ≡ moment (programmed m 1 (group_page 1 (zero_to word) 0 2)) (some (appended (begun word e) (zero_to word) [] 1)) fresh stepped_page
+  stepped_is : happened (world m (Some (begun word e)) fresh) Earlier.step
+      ≡ moment (programmed m 1 (group_page 1 (zero_to word) 0 2)) (Some (appended (begun word e) (zero_to word) [] 1)) fresh stepped_page
   unfolding happened with_state step_due_before stepped medium_after buffer_after group_page
   stepped_is = rw (long, sees, steps word e)
 
@@ -95,10 +95,10 @@ module _ (m : List ℕ) (e : List Bool) (word : ℕ) (small : word < 2 ^ 64) (lo
 
   holds_zero : Before first no_history → HoldsValveZero word
   holds_zero b =
-      let b₁ : Before (world m (some (begun word e)) fresh) (tell no_history (began_append (zero_to word))) =
+      let b₁ : Before (world m (Some (begun word e)) fresh) (tell no_history (began_append (zero_to word))) =
       subst (λ (t : Moment). Before t.after (tell no_history t.told)) appended_is (Before.next first no_history appending b) in
       let b₂ = subst (λ (t : Moment). Before t.after (tell (tell no_history (began_append (zero_to word))) t.told)) stepped_is
-      (Before.next (world m (some (begun word e)) fresh) (tell no_history (began_append (zero_to word))) Earlier.step b₁) in
+      (Before.next (world m (Some (begun word e)) fresh) (tell no_history (began_append (zero_to word))) Earlier.step b₁) in
       record {
         world = _;
         four_blocks = program_length m 1 (group_page 1 (zero_to word) 0 2) (omega (arith, long)) (one_entry word) ∙ long;
@@ -143,5 +143,5 @@ valve_zero_reached m bytes long word small =
     sees : views w.medium ≡ four
     sees = B.sees ∙ ap (λ (k : ℕ). whole base_page ∷ replicate k clean) pages
 
-    state : w.state ≡ some (started 4 B.erased)
-    state = let n : length w.medium / 4096 ≡ 4 = omega (arith, same) in B.holds ∙ ap (λ (k : ℕ). some (started k B.erased)) n
+    state : w.state ≡ Some (started 4 B.erased)
+    state = let n : length w.medium / 4096 ≡ 4 = omega (arith, same) in B.holds ∙ ap (λ (k : ℕ). Some (started k B.erased)) n

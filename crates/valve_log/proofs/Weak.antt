@@ -3,7 +3,7 @@
 use mathlib.Core.Path.{◌≡◌, refl, sym, ap, ◌∙◌}
 use mathlib.Core.Logic.{◌⊎◌, inl, inr}
 use mathlib.Core.Bool.{Bool, true, false, not}
-use mathlib.Core.Option.{Option, none, some}
+use Rattle.std.proofs.Common.{Option, None, Some}
 use mathlib.Core.List.{List, [], ◌∷◌}
 use Prim.Native.Nat.{ℕ, suc, ◌+◌, ◌-◌, ◌*◌, ◌/◌, ◌≤◌, ◌<◌}
 use native.Mathlib.Omega.{arith}
@@ -81,8 +81,8 @@ pub record Guard (weak : Weak) (s : Held) : Type 0 where
   pub formats : (n : ℕ) → s.pending ≡ format n → (b : ℕ) → b < n → weak b ≡ false
 
 unfoldable pub Kept : Weak → Option Held → Type 0
-Kept weak none = Unit {0}
-Kept weak (some s) = Guard weak s
+Kept weak None = Unit {0}
+Kept weak (Some s) = Guard weak s
 
 -- what a step may be
 unfoldable pub Careful : Weak → Answer Step → Type 0
@@ -261,7 +261,7 @@ step_careful weak m s bs G =
 
 -- ---- any event
 
-stepped_kept : (weak : Weak) (m : List ℕ) (s : Held) (bs : List ℕ) (st : Answer Step) → Guard weak s → Careful weak st → Kept (after_step st false weak) (stepped (world m (some s) bs) st).after.state
+stepped_kept : (weak : Weak) (m : List ℕ) (s : Held) (bs : List ℕ) (st : Answer Step) → Guard weak s → Careful weak st → Kept (after_step st false weak) (stepped (world m (Some s) bs) st).after.state
 unfolding stepped after_step Careful Kept
 stepped_kept weak m s bs (refused n) G C = G
 stepped_kept weak m s bs (gives (Step.program p pg s' f)) G C = C.1
@@ -274,15 +274,15 @@ cut_kept weak w left (gives (Step.program p pg s f)) = tt
 cut_kept weak w left (gives (Step.erase b s f)) = tt
 
 call_kept : (weak : Weak) (m : List ℕ) (s : Held) (bs : List ℕ) (t : Told) (cs : List Need) (pend : Pending) → Guard weak s → ((n : ℕ) → pend ≡ format n → ⊥)
-    → Kept weak (called (world m (some s) bs) t (checked cs (starting s pend))).after.state
+    → Kept weak (called (world m (Some s) bs) t (checked cs (starting s pend))).after.state
 call_kept weak m s bs t cs pend G n =
-    checked_cases (λ (c : Answer Held). Kept weak (called (world m (some s) bs) t c).after.state) cs (gives (starting s pend))
+    checked_cases (λ (c : Answer Held). Kept weak (called (world m (Some s) bs) t c).after.state) cs (gives (starting s pend))
     (λ k. unfold called Kept in G) (λ e. unfold called Kept in record { long = G.long; marks = G.marks; heads = G.heads; formats = λ k q. absurd (n k q) })
 
 buffer_kept : (weak : Weak) (m : List ℕ) (s : Held) (bs : List ℕ) (t : Told) (cs : List Need) (b : List ℕ) → Guard weak s
-    → Kept weak (filled (world m (some s) bs) t (checked cs b)).after.state
+    → Kept weak (filled (world m (Some s) bs) t (checked cs b)).after.state
 buffer_kept weak m s bs t cs b G =
-    checked_cases (λ (c : Answer (List ℕ)). Kept weak (filled (world m (some s) bs) t c).after.state) cs (gives b)
+    checked_cases (λ (c : Answer (List ℕ)). Kept weak (filled (world m (Some s) bs) t c).after.state) cs (gives b)
     (λ k. unfold filled Kept in G) (λ e. unfold filled Kept in G)
 
 recovered_guard : (weak : Weak) (v : List View) → Guard weak (recovered_state v)
@@ -298,19 +298,19 @@ recover_kept weak m s bs K =
 
 pub event_kept : (weak : Weak) (m : List ℕ) (s : Option Held) (bs : List ℕ) (e : Event (world m s bs)) → Kept weak s → Kept (weak_after (world m s bs) e weak) (happen (world m s bs) e).after.state
 unfolding happen weak_after with_state step_due
-event_kept weak m none bs (Event.append ks ws a b) K = K
-event_kept weak m (some s) bs (Event.append ks ws a b) K =
+event_kept weak m None bs (Event.append ks ws a b) K = K
+event_kept weak m (Some s) bs (Event.append ks ws a b) K =
     unfold append_of in call_kept weak m s bs (began_append (zip ks ws)) _ (append (zip ks ws) []) (unfold Kept in K) (append_format (zip ks ws) [])
-event_kept weak m none bs Event.commit K = K
-event_kept weak m (some s) bs Event.commit K = unfold commit_of in call_kept weak m s bs began_commit _ (commit 0) (unfold Kept in K) (commit_format 0)
-event_kept weak m none bs (Event.collect b) K = K
-event_kept weak m (some s) bs (Event.collect b) K = unfold collect_of in call_kept weak m s bs began_collect _ (collect b) (unfold Kept in K) (collect_format b)
-event_kept weak m none bs (Event.buffer ks ws a b) K = K
-event_kept weak m (some s) bs (Event.buffer ks ws a b) K = unfold buffer_of in buffer_kept weak m s bs (put_in (zip ks ws)) _ _ (unfold Kept in K)
-event_kept weak m none bs Event.flush K = K
-event_kept weak m (some s) bs Event.flush K = unfold flush_of in call_kept weak m s bs began_flush _ flush (unfold Kept in K) flush_format
-event_kept weak m none bs Event.step K = unfold stepped after_step in K
-event_kept weak m (some s) bs Event.step K = stepped_kept weak m s bs (step_of (length m) (views m) s bs) (unfold Kept in K) (step_careful weak m s bs (unfold Kept in K))
+event_kept weak m None bs Event.commit K = K
+event_kept weak m (Some s) bs Event.commit K = unfold commit_of in call_kept weak m s bs began_commit _ (commit 0) (unfold Kept in K) (commit_format 0)
+event_kept weak m None bs (Event.collect b) K = K
+event_kept weak m (Some s) bs (Event.collect b) K = unfold collect_of in call_kept weak m s bs began_collect _ (collect b) (unfold Kept in K) (collect_format b)
+event_kept weak m None bs (Event.buffer ks ws a b) K = K
+event_kept weak m (Some s) bs (Event.buffer ks ws a b) K = unfold buffer_of in buffer_kept weak m s bs (put_in (zip ks ws)) _ _ (unfold Kept in K)
+event_kept weak m None bs Event.flush K = K
+event_kept weak m (Some s) bs Event.flush K = unfold flush_of in call_kept weak m s bs began_flush _ flush (unfold Kept in K) flush_format
+event_kept weak m None bs Event.step K = unfold stepped after_step in K
+event_kept weak m (Some s) bs Event.step K = stepped_kept weak m s bs (step_of (length m) (views m) s bs) (unfold Kept in K) (step_careful weak m s bs (unfold Kept in K))
 event_kept weak m s bs Event.recover K = recover_kept weak m s bs K
 event_kept weak m s bs Event.read K = K
 event_kept weak m s bs Event.cut K = unfold Kept in tt
@@ -349,8 +349,8 @@ list_kept weak w h (Reached.taken_over b) = unfold Kept in tt
 programs_strong : (weak : Weak) (m : List ℕ) (s : Option Held) (bs : List ℕ) → Kept weak s → (p : ℕ) (pg : Page) (t : Held) (f : Bool)
     → step_due (world m s bs) ≡ gives (Step.program p pg t f) → weak (p / 16) ≡ false
 unfolding step_due with_state
-programs_strong weak m none bs K p pg t f e = let z : ◌≡◌ {A = ℕ} 0 1 = cc in absurd (omega arith)
-programs_strong weak m (some s) bs K p pg t f e = go (step_of (length m) (views m) s bs) (step_careful weak m s bs (unfold Kept in K)) e
+programs_strong weak m None bs K p pg t f e = let z : ◌≡◌ {A = ℕ} 0 1 = cc in absurd (omega arith)
+programs_strong weak m (Some s) bs K p pg t f e = go (step_of (length m) (views m) s bs) (step_careful weak m s bs (unfold Kept in K)) e
   where
     go : (st : Answer Step) → Careful weak st → st ≡ gives (Step.program p pg t f) → weak (p / 16) ≡ false
     go st C q = let D : (weak (p / 16) ≡ false) × Guard weak t = unfold Careful in (rw q at C) in D.0

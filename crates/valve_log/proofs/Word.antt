@@ -1,7 +1,7 @@
 -- The word's part: the last buffered entry that names a valve decides, else the medium.
 use mathlib.Core.Path.{◌≡◌, refl, sym, ap, ◌∙◌}
 use mathlib.Core.Bool.{true, false, cond}
-use mathlib.Core.Option.{Option, none, some}
+use Rattle.std.proofs.Common.{Option, None, Some}
 use mathlib.Core.List.{List, [], ◌∷◌, ◌++◌, append_assoc}
 use Prim.Native.Nat.{ℕ, suc, ◌+◌, ◌-◌, ◌*◌, ◌/◌, ◌%◌, ◌≤◌, ◌<◌, min}
 use native.Mathlib.Omega.{arith}
@@ -45,7 +45,7 @@ use Rattle.valve_log.proofs.Steady.{StateReady, reached_ready, has_word}
 
 -- ---- a valve in a list that rises
 
-removed_same : (k m : ℕ) (l : List Cell) → rising_from m l ≡ true → lookup k (remove k l) ≡ none
+removed_same : (k m : ℕ) (l : List Cell) → rising_from m l ≡ true → lookup k (remove k l) ≡ None
 unfolding lookup remove
 removed_same k m [] r = refl
 removed_same k m (x ∷ l) r =
@@ -68,7 +68,7 @@ removed_other v k m (x ∷ l) n r =
 
 -- one entry
 abbrev told : Entry → Option ℕ
-told e = cond (ltb e.key 32768) (some e.val) none
+told e = cond (ltb e.key 32768) (Some e.val) None
 
 lookup_assign : (v : ℕ) (l : List Cell) (e : Entry) → rising l ≡ true → lookup v (assign l e) ≡ cond (names v e) (told e) (lookup v l)
 unfolding assign names rising
@@ -85,8 +85,8 @@ lookup_assign v l e r =
 
 -- what the entries say: at a place the last, or none
 unfoldable Says : ℕ → List Cell → List Entry → List Entry → Option ℕ → Type 0
-Says v l es full none = lookup v (assign_all l es) ≡ lookup v l
-Says v l es full (some j) = (lookup v (assign_all l es) ≡ told (get_or full j (cell 0 0))) × (j < length full)
+Says v l es full None = lookup v (assign_all l es) ≡ lookup v l
+Says v l es full (Some j) = (lookup v (assign_all l es) ≡ told (get_or full j (cell 0 0))) × (j < length full)
 
 says : (v : ℕ) (es done : List Entry) (l : List Cell) → rising l ≡ true → Says v l es (done ++ es) (last_naming v (length done) es)
 unfolding last_naming Says assign_all
@@ -102,9 +102,9 @@ says v (e ∷ es) done l r = go (last_naming v (suc (length done)) es) (ih (says
     ih : Says v (assign l e) es ((done ++ (e ∷ [])) ++ es) (last_naming v (length (done ++ (e ∷ []))) es) → Says v (assign l e) es (done ++ (e ∷ es)) (last_naming v (suc (length done)) es)
     ih x = rw (longer, size) at x
 
-    go : (o : Option ℕ) → Says v (assign l e) es (done ++ (e ∷ es)) o → Says v l (e ∷ es) (done ++ (e ∷ es)) (cond (is_some o) o (cond (names v e) (some (length done)) none))
-    go (some j) i = unfold is_some in i
-    go none i =
+    go : (o : Option ℕ) → Says v (assign l e) es (done ++ (e ∷ es)) o → Says v l (e ∷ es) (done ++ (e ∷ es)) (cond (is_some o) o (cond (names v e) (Some (length done)) None))
+    go (Some j) i = unfold is_some in i
+    go None i =
         unfold is_some in
         by_cases (names v e)
         (λ q. rw q (i ∙ lookup_assign v l e r ∙ (rw q (ap told (sym (get_or-append_seam done e es (cell 0 0))))), omega (arith, length-append done (e ∷ es))))
@@ -130,7 +130,7 @@ entry_word s i e =
     let k : i < min 24 (used s) = omega arith in
     (ap (λ (x : Entry). x.val) (get_table (entry_at s) (cell 0 0) (min 24 (used s)) i k) ∙ (unfold entry_at in refl), omega arith)
 
-node_bytes : (m : List ℕ) (p i key w : ℕ) (y : View) → Bytes m → view_of (page_at m p) ≡ y → word_for key (node_in y i) ≡ some w → part (256 * p + (64 + 8 * i)) 8 m ≡ bytes_of 8 w
+node_bytes : (m : List ℕ) (p i key w : ℕ) (y : View) → Bytes m → view_of (page_at m p) ≡ y → word_for key (node_in y i) ≡ Some w → part (256 * p + (64 + 8 * i)) 8 m ≡ bytes_of 8 w
 unfolding node_in word_for entry_in
 node_bytes m p i key w clean b e q = none_some q
 node_bytes m p i key w spoilt b e q = none_some q
@@ -160,17 +160,17 @@ node_bytes m p i key w (whole pg) b e q =
         sym (bytes_le (part (256 * p + (64 + 8 * i)) 8 m) (bytes_part (256 * p + (64 + 8 * i)) 8 m b))
         ∙ ap (λ (k : ℕ). bytes_of k (le (part (256 * p + (64 + 8 * i)) 8 m))) l ∙ ap (bytes_of 8) (sym f)
 
-word_bytes : (m : List ℕ) (x : Place) (w : ℕ) → Bytes m → word_at (views m) x ≡ some w → part (256 * (x.val / 24) + (64 + 8 * (x.val % 24))) 8 m ≡ bytes_of 8 w
+word_bytes : (m : List ℕ) (x : Place) (w : ℕ) → Bytes m → word_at (views m) x ≡ Some w → part (256 * (x.val / 24) + (64 + 8 * (x.val % 24))) 8 m ≡ bytes_of 8 w
 unfolding word_at
 word_bytes m x w b e =
-    let f : word_for x.key (node_in (seen (views m) (x.val / 24)) (x.val % 24)) ≡ some w = e in
+    let f : word_for x.key (node_in (seen (views m) (x.val / 24)) (x.val % 24)) ≡ Some w = e in
     node_bytes m (x.val / 24) (x.val % 24) x.key w (view_of (page_at m (x.val / 24))) b refl (rw (seen_views m (x.val / 24)) at f)
 
 -- ---- the settings are the words of the index
 
 worded : List View → ℕ → Option ℕ → Option ℕ
-worded v k none = none
-worded v k (some a) = some (value_or 0 (word_at v (cell k a)))
+worded v k None = None
+worded v k (Some a) = Some (value_or 0 (word_at v (cell k a)))
 
 lookup_words : (v : List View) (k : ℕ) (l : List Place) → lookup k (words v l) ≡ worded v k (lookup k l)
 unfolding lookup words worded
@@ -181,7 +181,7 @@ lookup_words v k (x ∷ l) =
 
 -- ---- what the reading tells
 
-module _ (m : List ℕ) (s : Held) (bs : List ℕ) (h : History) (U : Upheld (world m (some s) bs) h) (r : Ready (views m) s) (A : Allowed h) (valve : ℕ) where
+module _ (m : List ℕ) (s : Held) (bs : List ℕ) (h : History) (U : Upheld (world m (Some s) bs) h) (r : Ready (views m) s) (A : Allowed h) (valve : ℕ) where
   abbrev v : List View
   v = views m
 
@@ -219,15 +219,15 @@ module _ (m : List ℕ) (s : Held) (bs : List ℕ) (h : History) (U : Upheld (wo
 
   record Has (part : List ℕ) : Type 0 where
     word : ℕ
-    set : lookup valve (assign_all h.settings es) ≡ some word
+    set : lookup valve (assign_all h.settings es) ≡ Some word
     bytes : part ≡ bytes_of 8 word
 
   abbrev Said : ℕ → List ℕ → Type 0
-  Said n part = (n ≡ 0 → Has part) × ((n ≡ 0 → ⊥) → (n ≡ 18) × (lookup valve (assign_all h.settings es) ≡ none))
+  Said n part = (n ≡ 0 → Has part) × ((n ≡ 0 → ⊥) → (n ≡ 18) × (lookup valve (assign_all h.settings es) ≡ None))
 
   -- in the buffer
   in_buffer : (j : ℕ) → lookup valve (assign_all h.settings es) ≡ told (get_or es j (cell 0 0)) → j < length es
-      → Said (refusal_of (sought_in v s bs valve (some j)).needs) (answer_or (λ n. []) (checked (sought_in v s bs valve (some j)).needs (eight_bytes m bs (sought_in v s bs valve (some j)))))
+      → Said (refusal_of (sought_in v s bs valve (Some j)).needs) (answer_or (λ n. []) (checked (sought_in v s bs valve (Some j)).needs (eight_bytes m bs (sought_in v s bs valve (Some j)))))
   unfolding sought_in refusal_of answer_or under sets_at
   in_buffer j e k =
       rw (lent_groups L) (by_cases (ltb (get_or es j (cell 0 0)).key 32768)
@@ -240,43 +240,43 @@ module _ (m : List ℕ) (s : Held) (bs : List ℕ) (h : History) (U : Upheld (wo
       ap (lookup valve) (sym U.coupled.medium.shows) ∙ lookup_words v valve U.coupled.idx
       ∙ ap (λ (l : List Place). worded v valve (lookup valve l)) (sym (alive_of U.coupled.memory).indices)
 
-  there : (o : Option ℕ) → is_some o ≡ true → o ≡ some (value_or 0 o)
+  there : (o : Option ℕ) → is_some o ≡ true → o ≡ Some (value_or 0 o)
   unfolding is_some value_or
-  there none e = true_false e refl
-  there (some w) e = refl
+  there None e = true_false e refl
+  there (Some w) e = refl
 
-  place_is : (a : ℕ) → lookup valve s.index ≡ some a → place_of s valve ≡ cell valve a
+  place_is : (a : ℕ) → lookup valve s.index ≡ Some a → place_of s valve ≡ cell valve a
   unfolding value_or
   place_is a q = rw q
 
-  settings_none : lookup valve s.index ≡ none → lookup valve h.settings ≡ none
+  settings_none : lookup valve s.index ≡ None → lookup valve h.settings ≡ None
   settings_none q = index_is ∙ ap (worded v valve) q ∙ (unfold worded in refl)
 
-  settings_some : (a : ℕ) → lookup valve s.index ≡ some a → lookup valve h.settings ≡ some (value_or 0 (word_at v (cell valve a)))
+  settings_some : (a : ℕ) → lookup valve s.index ≡ Some a → lookup valve h.settings ≡ Some (value_or 0 (word_at v (cell valve a)))
   settings_some a q = index_is ∙ ap (worded v valve) q ∙ (unfold worded in refl)
 
-  some_there : (a : ℕ) → lookup valve s.index ≡ some a → is_some (lookup valve s.index) ≡ true
+  some_there : (a : ℕ) → lookup valve s.index ≡ Some a → is_some (lookup valve s.index) ≡ true
   unfolding is_some
   some_there a q = rw q
 
-  word_there : (a : ℕ) → lookup valve s.index ≡ some a → is_some (word_at v (place_of s valve)) ≡ true
+  word_there : (a : ℕ) → lookup valve s.index ≡ Some a → is_some (word_at v (place_of s valve)) ≡ true
   word_there a q = has_word m s bs h U r A valve (some_there a q)
 
-  medium_word : (a : ℕ) → lookup valve s.index ≡ some a → part (256 * ((place_of s valve).val / 24) + (64 + 8 * ((place_of s valve).val % 24))) 8 m ≡ bytes_of 8 (value_or 0 (word_at v (place_of s valve)))
+  medium_word : (a : ℕ) → lookup valve s.index ≡ Some a → part (256 * ((place_of s valve).val / 24) + (64 + 8 * ((place_of s valve).val % 24))) 8 m ≡ bytes_of 8 (value_or 0 (word_at v (place_of s valve)))
   medium_word a q = word_bytes m (place_of s valve) (value_or 0 (word_at v (place_of s valve))) U.guarded.bytes (there (word_at v (place_of s valve)) (word_there a q))
 
   in_medium : lookup valve (assign_all h.settings es) ≡ lookup valve h.settings
-      → Said (refusal_of (sought_in v s bs valve none).needs) (answer_or (λ n. []) (checked (sought_in v s bs valve none).needs (eight_bytes m bs (sought_in v s bs valve none))))
+      → Said (refusal_of (sought_in v s bs valve None).needs) (answer_or (λ n. []) (checked (sought_in v s bs valve None).needs (eight_bytes m bs (sought_in v s bs valve None))))
   unfolding sought_in refusal_of answer_or under
   in_medium e = go (lookup valve s.index) refl
     where
       go : (o : Option ℕ) → lookup valve s.index ≡ o
-          → Said (refusal_of (sought_in v s bs valve none).needs) (answer_or (λ n. []) (checked (sought_in v s bs valve none).needs (eight_bytes m bs (sought_in v s bs valve none))))
-      go none q =
+          → Said (refusal_of (sought_in v s bs valve None).needs) (answer_or (λ n. []) (checked (sought_in v s bs valve None).needs (eight_bytes m bs (sought_in v s bs valve None))))
+      go None q =
           let f : is_some (lookup valve s.index) ≡ false = rw q (unfold is_some in refl) in
           rw f ((λ z. absurd (omega arith)), λ z. (refl, e ∙ settings_none q))
-      go (some a) q =
-          let w = settings_some a q ∙ ap (λ (x : Place). some (value_or 0 (word_at v x))) (sym (place_is a q)) in
+      go (Some a) q =
+          let w = settings_some a q ∙ ap (λ (x : Place). Some (value_or 0 (word_at v x))) (sym (place_is a q)) in
           rw (some_there a q, word_there a q) ((λ z. record { word = _; set = e ∙ w; bytes = medium_word a q }), λ z. absurd (z refl))
 
   holds : (part : List ℕ) → word_part m v s bs valve ≡ part → Has part → Holds m s bs h valve
@@ -286,21 +286,21 @@ module _ (m : List ℕ) (s : Held) (bs : List ℕ) (h : History) (U : Upheld (wo
   tells = go (last_naming valve 0 es) refl said
     where
       go : (o : Option ℕ) → last_naming valve 0 es ≡ o → Says valve h.settings es es o → Tells m s bs h valve
-      go none q y =
+      go None q y =
           let a = in_medium (unfold Says in y) in
-          record { found = λ z. holds _ (part_is none q) (a.0 (sym (number_is none q) ∙ z)); unset = rw (after, number_is none q) a.1 }
-      go (some j) q y =
+          record { found = λ z. holds _ (part_is None q) (a.0 (sym (number_is None q) ∙ z)); unset = rw (after, number_is None q) a.1 }
+      go (Some j) q y =
           let t : (lookup valve (assign_all h.settings es) ≡ told (get_or es j (cell 0 0))) × (j < length es) = unfold Says in y in
           let a = in_buffer j t.0 t.1 in
-          record { found = λ z. holds _ (part_is (some j) q) (a.0 (sym (number_is (some j) q) ∙ z)); unset = rw (after, number_is (some j) q) a.1 }
+          record { found = λ z. holds _ (part_is (Some j) q) (a.0 (sym (number_is (Some j) q) ∙ z)); unset = rw (after, number_is (Some j) q) a.1 }
 
 pub word_told : WordTold
 unfolding WordTold
 word_told w h s valve R e = answers w.medium w.buffer w.state (reached_upheld w h R) (reached_ready w h R) (reached_allowed w h R) e
   where
-    answers : (m bs : List ℕ) (o : Option Held) → Upheld (world m o bs) h → StateReady (views m) o → StateAllowed o h → o ≡ some s → Tells m s bs h valve
-    answers m bs none U r A e = let z : ◌≡◌ {A = ℕ} 0 1 = cc in absurd (omega arith)
-    answers m bs (some t) U r A e =
+    answers : (m bs : List ℕ) (o : Option Held) → Upheld (world m o bs) h → StateReady (views m) o → StateAllowed o h → o ≡ Some s → Tells m s bs h valve
+    answers m bs None U r A e = let z : ◌≡◌ {A = ℕ} 0 1 = cc in absurd (omega arith)
+    answers m bs (Some t) U r A e =
         let q : t ≡ s = cc in
         let r' : Ready (views m) t = unfold StateReady in r in
         rw (← q) (tells m t bs h U r' (unfold StateAllowed in A) valve)

@@ -1,6 +1,6 @@
 -- What the buffer holds in a world that such a list reaches, and what a flush programs of it.
 use Rattle.std.specs.Prelude.{◌≡◌, Bool, List, ℕ}
-use Rattle.std.proofs.Math.Option.{some}
+use Rattle.std.specs.Prelude.{Some}
 use Rattle.lists.specs.Lists.{Bytes}
 use Rattle.lists.specs.Needs.{gives}
 use Rattle.codec.specs.Codec.{bytes_of, put_at}
@@ -14,7 +14,7 @@ use Rattle.valve_log.specs.Reached.{World, Reached}
 
 -- where there is a state, the groups in the buffer are those that the history has as buffered, in order
 unfoldable pub HoldsBuffered : Type 0
-HoldsBuffered = (w : World) (h : History) (s : Held) → Reached w h → w.state ≡ some s → gathered w.buffer ≡ some h.buffered
+HoldsBuffered = (w : World) (h : History) (s : Held) → Reached w h → w.state ≡ Some s → gathered w.buffer ≡ Some h.buffered
 
 -- "a flush's step programs it as then lent": a page that it programs is the lent buffer, whatever that is, with the serial in bytes 8–15 and then
 -- the check in bytes 0–1

@@ -1,7 +1,7 @@
 -- That the list of point 3 can start: formatting, begun on any medium of allowed length and stepped, is finished, by one step for each block
 -- and one more. So point 3 speaks of some world for every such medium. And it speaks of media that hold valve 0.
 use Rattle.std.specs.Prelude.{◌≡◌, true, false, List, [], ◌∷◌, ℕ, zero, suc, ◌/◌, ◌^◌, ◌≤◌, ◌<◌, length}
-use Rattle.std.proofs.Math.Option.{some}
+use Rattle.std.specs.Prelude.{Some}
 use Rattle.lists.specs.Lists.{Bytes}
 use Rattle.lists.specs.Needs.{refused, gives}
 use Rattle.lists.specs.Cells.{cell}
@@ -21,11 +21,11 @@ steps_on (suc n) w = (happen (steps_on n w) Event.step).after
 pub record Finished (m : List ℕ) : Type 0 where
   pub state : Held
   pub begun : format_of (length m) ≡ gives state
-  pub accepted : (n k : ℕ) → n ≤ length m / 4096 → step_due (steps_on n (world m (some state) fresh)) ≡ refused k → ⊥
-  pub before : (n : ℕ) → n < length m / 4096 → finishes (step_due (steps_on n (world m (some state) fresh))) ≡ false
-  pub last : finishes (step_due (steps_on (length m / 4096) (world m (some state) fresh))) ≡ true
-  pub reached : Reached (lent_anew (steps_on (suc (length m / 4096)) (world m (some state) fresh))) no_history
-  pub same_length : length (steps_on (suc (length m / 4096)) (world m (some state) fresh)).medium ≡ length m
+  pub accepted : (n k : ℕ) → n ≤ length m / 4096 → step_due (steps_on n (world m (Some state) fresh)) ≡ refused k → ⊥
+  pub before : (n : ℕ) → n < length m / 4096 → finishes (step_due (steps_on n (world m (Some state) fresh))) ≡ false
+  pub last : finishes (step_due (steps_on (length m / 4096) (world m (Some state) fresh))) ≡ true
+  pub reached : Reached (lent_anew (steps_on (suc (length m / 4096)) (world m (Some state) fresh))) no_history
+  pub same_length : length (steps_on (suc (length m / 4096)) (world m (Some state) fresh)).medium ≡ length m
 
 unfoldable pub FormattingFinishes : Type 0
 FormattingFinishes = (m : List ℕ) → Bytes m → size_ok (length m) ≡ true → Finished m
@@ -46,4 +46,4 @@ ValveZeroReached = (m : List ℕ) → Bytes m → length m ≡ 16384 → (word :
 unfoldable pub FormattedAlike : Type 0
 FormattedAlike =
     (m m' : List ℕ) → Bytes m → Bytes m' → size_ok (length m) ≡ true → length m' ≡ length m → (s : Held) → format_of (length m) ≡ gives s
-    → steps_on (suc (length m / 4096)) (world m' (some s) fresh) ≡ steps_on (suc (length m / 4096)) (world m (some s) fresh)
+    → steps_on (suc (length m / 4096)) (world m' (Some s) fresh) ≡ steps_on (suc (length m / 4096)) (world m (Some s) fresh)

@@ -1,6 +1,6 @@
 -- What is buffered can be flushed, on a medium that such a list reaches, with the state last handed back and the buffer last left.
 use Rattle.std.specs.Prelude.{◌≡◌, true, false, List, ℕ, length}
-use Rattle.std.proofs.Math.Option.{some}
+use Rattle.std.specs.Prelude.{Some}
 use Rattle.lists.specs.Needs.{refused, gives}
 use Rattle.flash.specs.Medium.{views}
 use Rattle.state.specs.State.{flush, Held, is_idle}
@@ -16,4 +16,4 @@ pub record CanFlush (m : List ℕ) (s : Held) (b : List ℕ) : Type 0 where
   pub steps : is_idle s.pending ≡ false → (n : ℕ) → step_of (length m) (views m) s b ≡ refused n → ⊥
 
 unfoldable pub Flushable : Type 0
-Flushable = (w : World) (h : History) (s : Held) → Reached w h → w.state ≡ some s → holds_none w.buffer ≡ false → CanFlush w.medium s w.buffer
+Flushable = (w : World) (h : History) (s : Held) → Reached w h → w.state ≡ Some s → holds_none w.buffer ≡ false → CanFlush w.medium s w.buffer

@@ -1,6 +1,6 @@
 -- What changes nothing: refused calls and readings; a collection, for what recovery shows; a recovery after a recovery.
 use Rattle.std.specs.Prelude.{◌≡◌, List, ℕ}
-use Rattle.std.proofs.Math.Option.{some}
+use Rattle.std.specs.Prelude.{Some}
 use Rattle.lists.specs.Needs.{refused}
 use Rattle.state.specs.State.{Held, collect}
 use Rattle.valve_log.specs.History.{History, Told, unchanged, tell}
@@ -21,7 +21,7 @@ pub record Collecting (w : World) (h : History) : Type 0 where
   pub cut : (left : List ℕ) → CutOf w.medium (step_due w) left → Shows left h
 
 unfoldable pub CollectionKeeps : Type 0
-CollectionKeeps = (w : World) (h : History) (s : Held) (b : ℕ) → Reached w h → w.state ≡ some s → s.pending ≡ collect b → Collecting w h
+CollectionKeeps = (w : World) (h : History) (s : Held) (b : ℕ) → Reached w h → w.state ≡ Some s → s.pending ≡ collect b → Collecting w h
 
 -- a recovery right after a recovery hands back the same
 unfoldable pub RecoversAgain : Type 0

@@ -1,7 +1,7 @@
 -- What a reading of the settings meets on a medium reached, with the state last handed back, whatever is under way or buffered: the history's
 -- settings.
 use Rattle.std.specs.Prelude.{◌≡◌, true, List, ℕ, length}
-use Rattle.std.proofs.Math.Option.{some}
+use Rattle.std.specs.Prelude.{Some}
 use Rattle.flash.specs.Medium.{views}
 use Rattle.blocks.specs.Blocks.{size_ok}
 use Rattle.nodes.specs.Nodes.{sound, words}
@@ -18,10 +18,10 @@ pub record Stands (m : List ℕ) (s : Held) (h : History) : Type 0 where
   pub settings : words (views m) s.index ≡ h.settings
 
 unfoldable pub StandsReached : Type 0
-StandsReached = (w : World) (h : History) (s : Held) → Reached w h → w.state ≡ some s → Stands w.medium s h
+StandsReached = (w : World) (h : History) (s : Held) → Reached w h → w.state ≡ Some s → Stands w.medium s h
 
 -- so the settings filed into lent lists are the history's
 unfoldable pub SettingsTold : Type 0
 SettingsTold =
-    (w : World) (h : History) (s : Held) (lists : List (List ℕ)) → Reached w h → w.state ≡ some s
+    (w : World) (h : History) (s : Held) (lists : List (List ℕ)) → Reached w h → w.state ≡ Some s
     → read_settings (length w.medium) (views w.medium) s lists ≡ filed_settings lists h.settings

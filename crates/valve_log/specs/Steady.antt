@@ -1,7 +1,7 @@
 -- What no call answers on a medium that such a list reaches, with the state last handed back and the buffer last left: 1, 6, 7 and 16 are
 -- for media, states and buffers that the journal's own writer does not produce.
 use Rattle.std.specs.Prelude.{◌≡◌, Bool, true, not, List, [], ◌∷◌, ℕ, eqb, length}
-use Rattle.std.proofs.Math.Option.{some}
+use Rattle.std.specs.Prelude.{Some}
 use Rattle.lists.specs.Lists.{every}
 use Rattle.lists.specs.Needs.{refused}
 use Rattle.flash.specs.Medium.{views}
@@ -34,7 +34,7 @@ pub record Answers (m : List ℕ) (s : Held) (b : List ℕ) : Type 0 where
   pub available : (n : ℕ) → available_of (length m) (views m) s ≡ refused n → ⊥
 
 unfoldable pub Steady : Type 0
-Steady = (w : World) (h : History) (s : Held) → Reached w h → w.state ≡ some s → Answers w.medium s w.buffer
+Steady = (w : World) (h : History) (s : Held) → Reached w h → w.state ≡ Some s → Answers w.medium s w.buffer
 
 -- The calls that take no state, also where a cut lost it: format and recovery never refuse, and the log, filed into any lists, is refused
 -- by 17 alone. A page of the medium refuses nothing anywhere.

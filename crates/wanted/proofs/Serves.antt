@@ -2,7 +2,7 @@
 -- most 96 entries leads there.
 use mathlib.Core.Path.{◌≡◌, refl, sym, ap, ◌∙◌, subst}
 use mathlib.Core.Bool.{Bool, true, false, cond, not}
-use mathlib.Core.Option.{Option, none, some}
+use Rattle.std.proofs.Common.{Option, None, Some}
 use mathlib.Core.List.{List, [], ◌∷◌}
 use Prim.Native.Nat.{ℕ, ◌≤◌, ◌<◌}
 use native.Mathlib.Omega.{arith}
@@ -40,15 +40,15 @@ use Rattle.wanted.proofs.Append.{appendable}
 
 abbrev kind : Answer (Option (List Entry)) → ℕ
 kind (refused n) = 0
-kind (gives none) = 1
-kind (gives (some es)) = 2
+kind (gives None) = 1
+kind (gives (Some es)) = 2
 
 other : {P : Type 0} {a b : Answer (Option (List Entry))} → (kind a ≡ kind b → ⊥) → a ≡ b → P
 other n e = absurd (n (ap kind e))
 
 abbrev entries : Answer (Option (List Entry)) → List Entry
-entries (gives (some es)) = es
-entries (gives none) = []
+entries (gives (Some es)) = es
+entries (gives None) = []
 entries (refused n) = []
 
 -- a refusal claims nothing
@@ -151,7 +151,7 @@ module _ (v : List View) (s : Held) (w : List Setting) (f : fit v s ≡ true) (r
       ∙ within_same s.index (present v s) g g (sym (keys_words v s.index)) refl
       ∙ fewest.most)
 
-  serves_group : entries_allowed g ≡ true → differing (present v s) w ≤ 96 → Serves v s w (gives (some g))
+  serves_group : entries_allowed g ≡ true → differing (present v s) w ≤ 96 → Serves v s w (gives (Some g))
   unfolding Far
   serves_group a h =
       let z = long in
@@ -161,10 +161,10 @@ module _ (v : List View) (s : Held) (w : List Setting) (f : fit v s ≡ true) (r
         appends = λ es e. subst (λ (t : List Entry). 1 ≤ length t → Appendable s.index t) (ap entries e) (accepted a h);
         none_far = λ e. other (λ y. absurd (omega (arith, y))) e;
         far_none = λ n far. let y = far g leads in absurd (omega (arith, y, z, h));
-        nothing_differs = λ n e. let y = same_least e in ap (λ (t : List Entry). gives (some t)) (no_entries g (omega (arith, y, z)));
+        nothing_differs = λ n e. let y = same_least e in ap (λ (t : List Entry). gives (Some t)) (no_entries g (omega (arith, y, z)));
       }
 
-  serves_none : 96 < differing (present v s) w → Serves v s w (gives none)
+  serves_none : 96 < differing (present v s) w → Serves v s w (gives None)
   unfolding Far
   serves_none h =
       record {
@@ -228,12 +228,12 @@ zero_is_needed n v s w fs e h =
 
 -- what an answer says stands for it again, but for a refusal numbered 0
 heard : Reply → Answer (Option (List Entry))
-heard t = answered t.number (cond t.found (some t.entries) none)
+heard t = answered t.number (cond t.found (Some t.entries) None)
 
 heard_given : (o : Option (List Entry)) → heard (reply (gives o)) ≡ gives o
 unfolding heard reply answered
-heard_given none = refl
-heard_given (some es) = refl
+heard_given None = refl
+heard_given (Some es) = refl
 
 -- no condition has number 0
 heard_checked : (cs : List Need) (o : Option (List Entry)) → numbered cs ≡ true → heard (reply (checked cs o)) ≡ checked cs o

@@ -1,7 +1,7 @@
 -- What the control room relies on: the group leads to the wanted settings, nothing shorter does, an append takes it, and 'none' means that
 -- no group of 96 entries or fewer leads there.
 use Rattle.std.specs.Prelude.{◌≡◌, Bool, true, false, cond, not, List, [], ◌++◌, ℕ, ◌≤◌, ◌<◌, length, leb, eqb}
-use Rattle.std.proofs.Math.Option.{Option, none, some}
+use Rattle.std.specs.Prelude.{Option, None, Some}
 use Rattle.lists.specs.Lists.{all}
 use Rattle.lists.specs.Needs.{Answer, refused, gives, answered}
 use Rattle.lists.specs.Cells.{Entry, Place, Setting, listed, keys_of, words_of}
@@ -63,14 +63,14 @@ NotRefused answer = (n : ℕ) → answer ≡ refused n → ⊥
 
 -- what holds of an answer, for the pages v, what the state holds and the wanted settings
 pub record Serves (v : List View) (s : Held) (w : List Setting) (answer : Answer (Option (List Entry))) : Type 0 where
-  pub shortest : (es : List Entry) → answer ≡ gives (some es) → Fewest (present v s) w es
-  pub ordered : (es : List Entry) → answer ≡ gives (some es) → InOrder es
-  pub appends : (es : List Entry) → answer ≡ gives (some es) → 1 ≤ length es → Appendable s.index es
+  pub shortest : (es : List Entry) → answer ≡ gives (Some es) → Fewest (present v s) w es
+  pub ordered : (es : List Entry) → answer ≡ gives (Some es) → InOrder es
+  pub appends : (es : List Entry) → answer ≡ gives (Some es) → 1 ≤ length es → Appendable s.index es
   -- 'none' exactly if every list that leads there has more than 96 entries
-  pub none_far : answer ≡ gives none → Far (present v s) w
-  pub far_none : NotRefused answer → Far (present v s) w → answer ≡ gives none
+  pub none_far : answer ≡ gives None → Far (present v s) w
+  pub far_none : NotRefused answer → Far (present v s) w → answer ≡ gives None
   -- "an empty group if none does"
-  pub nothing_differs : NotRefused answer → present v s ≡ w → answer ≡ gives (some [])
+  pub nothing_differs : NotRefused answer → present v s ≡ w → answer ≡ gives (Some [])
 
 -- ---- of which answers it is shown
 
@@ -88,7 +88,7 @@ ZeroNeeded =
 
 -- the answer that the code's struct stands for
 unfoldable pub answer_in : WantedAnswer → Answer (Option (List Entry))
-answer_in r = answered r.number (cond r.found (some (listed r.group)) none)
+answer_in r = answered r.number (cond r.found (Some (listed r.group)) None)
 
 -- of whatever the call answers, by its promise
 unfoldable pub ServedByCall : Type 0

@@ -1,7 +1,7 @@
 -- Paper 2, a group for wanted openings: "At a grade change the control room has a list of wanted records, each a valve and its word, and
 -- wants the group that leads there." n is the medium's length in bytes, v its pages, s what the state holds, w the wanted settings.
 use Rattle.std.specs.Prelude.{◌≡◌, Bool, true, false, cond, List, [], ◌∷◌, ℕ, length, leb}
-use Rattle.std.proofs.Math.Option.{Option, none, some}
+use Rattle.std.specs.Prelude.{Option, None, Some}
 use Rattle.lists.specs.Lists.{all, every}
 use Rattle.lists.specs.Needs.{Answer, refused, gives, Need, need, checked}
 use Rattle.lists.specs.Cells.{Entry, Setting, listed}
@@ -44,7 +44,7 @@ wanted_needs n v s w =
 
 -- "The answer is 'none' exactly if more than 96 valves differ, and an empty group if none does."
 unfoldable pub wanted_for : List Setting → List Setting → Option (List Entry)
-wanted_for now w = cond (leb (differing now w) 96) (some (group_for now w)) none
+wanted_for now w = cond (leb (differing now w) 96) (Some (group_for now w)) None
 
 unfoldable pub wanted_of : ℕ → List View → Held → List Setting → Answer (Option (List Entry))
 wanted_of n v s w = checked (wanted_needs n v s w) (wanted_for (present v s) w)
@@ -60,8 +60,8 @@ pub record Reply : Type 0 where
 
 unfoldable pub reply : Answer (Option (List Entry)) → Reply
 reply (refused n) = record { number = n; found = false; entries = [] }
-reply (gives none) = record { number = 0; found = false; entries = [] }
-reply (gives (some es)) = record { number = 0; found = true; entries = es }
+reply (gives None) = record { number = 0; found = false; entries = [] }
+reply (gives (Some es)) = record { number = 0; found = true; entries = es }
 
 -- what the code's struct says: the group's entries are those below its count; what its arrays hold past that is open and means nothing
 abbrev pub reply_by : WantedAnswer → Reply

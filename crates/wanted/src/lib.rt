@@ -2,26 +2,29 @@
 // is noted first, and after 6 each record is compared with the index.
 #![tactic(auto)]
 
-ghost use Rattle.std.specs.Prelude.{◌≡◌, true, ◌≤◌, length, take};
+ghost use Rattle.std.specs.Prelude.{◌≡◌, true, ◌≤◌, length};
 ghost use Rattle.lists.specs.Lists.{all};
 ghost use Rattle.lists.specs.Needs.{refused, refusal_of};
-ghost use Rattle.lists.specs.Cells.{cell, listed};
+ghost use Rattle.lists.specs.Cells.{listed};
+ghost use Rattle.refusal.specs.Refusal.{number_of};
 ghost use Rattle.flash.specs.Medium.{views};
 ghost use Rattle.index.specs.Index.{rising};
 ghost use Rattle.state.specs.State.{meaning};
 ghost use Rattle.records.specs.Records.{wanted_settings};
 ghost use Rattle.wanted_group.specs.Group.{is_valve};
-ghost use Rattle.wanted_group.specs.Compare.{not_compared, compared_with, compared_all, so_far, Comparing, ComesTo};
-ghost use Rattle.wanted.specs.Wanted.{reply, reply_by, AnswersWanted};
-ghost use Rattle.wanted.specs.InTurn.{record_needs, stopped, start_by, after_records, beginning, Ready, Begins, closing};
+ghost use Rattle.wanted_group.specs.Compare.{not_compared, compared_all, so_far, ComesTo};
+ghost use Rattle.wanted.specs.Wanted.{reply, reply_by, wanted_of, AnswersWanted};
+ghost use Rattle.wanted.specs.InTurn.{record_needs, after_records, beginning, Ready, Begins, group_told};
 
 use lists::Cells;
 use records::{Notes, Record};
+use refusal::Refusal;
 use state::State;
 use wanted_group::Compared;
 
 // The answer of `wanted`: 0 and whether at most 96 valves differ, with the group then, or a refusal's number. Beside a refusal `found` is false;
 // where there is no group, `group` holds no entry.
+// Kept: a number and values beside it, since this is the form of the C interface.
 #[repr(C)]
 #[derive(Clone, Copy)]
 pub struct WantedAnswer {
@@ -34,155 +37,97 @@ pub struct WantedAnswer {
 fn refused(number: u8) -> WantedAnswer
     ensures { reply_by result ≡ reply (refused number) }
 {
-    let no_entries = index::empty();
     WantedAnswer {
-        number: number,
+        number,
         found: false,
-        group: no_entries,
+        group: index::empty(),
     }
 }
 
-// 19 where the valves of so many records do not rise as they must, 20 where the records are too many, else 0.
-fn record_refusal(rises: bool, count: usize) -> u8
-    ensures { result ≡ refusal_of (record_needs rises count) }
+impl From<Result<Option<Cells>, Refusal>> for WantedAnswer {
+    ghost from_gives = { λ a r. reply_by r ≡ reply (group_told a) };
+
+    // The group, or that there is none, or a refusal's number.
+    #[tactic(auto, unfolding(crate::specs::Wanted::reply))]
+    fn from(answer: Result<Option<Cells>, Refusal>) -> WantedAnswer {
+        match answer {
+            Ok(Some(group)) => WantedAnswer {
+                number: 0,
+                found: true,
+                group,
+            },
+            Ok(None) => refused(0),
+            Err(refusal) => refused(refusal.number()),
+        }
+    }
+}
+
+// 19 where the valves of the records that were noted do not rise as they must, 20 where the records are too many.
+fn check_records(n: Notes) -> Result<(), Refusal>
+    ensures { number_of result ≡ refusal_of (record_needs n.rises n.count) }
 {
-    if !rises {
-        return 19;
+    if !n.rises {
+        return Err(Refusal::Record);
     }
-    if 192 < count {
-        return 20;
+    if 192 < n.count {
+        return Err(Refusal::Records);
     }
-    0
+    Ok(())
 }
 
-// What stands before the records are compared: a refusal's number, or 0, how many records are to be compared, and the present settings.
-// Beside a refusal these are none.
-#[derive(Clone, Copy)]
-pub struct Begun {
-    pub number: u8,
-    pub count: usize,
-    pub present: Cells,
-}
-
-// A refusal before any record is compared.
-fn stop(refusal: u8) -> Begun
-    ensures { Begins (stopped refusal) result }
-{
-    let no_settings = index::empty();
-    Begun {
-        number: refusal,
-        count: 0,
-        present: no_settings,
-    }
-}
-
-// The present settings of an index, for so many records, or 6.
-fn from_index(m: &[u8], places: Cells, count: usize) -> Begun
-    requires { (places.count ≤ 192) × (rising (listed places) ≡ true) × (all is_valve (listed places) ≡ true) }
-    ensures { Begins (start_by count (after_records (views m.now) (listed places))) result }
+// The present settings of an index, or 6.
+fn from_index(m: &[u8], places: &Cells) -> Result<Cells, Refusal>
+    requires { (places.now.count ≤ 192) × (rising (listed places.now) ≡ true) × (all is_valve (listed places.now) ≡ true) }
+    ensures { Begins (after_records (views m.now) (listed places.now)) result }
 {
     let mut words = [0u64; 192];
     if !settings::present(m, &places.keys, &places.vals, places.count, &mut words) {
-        return stop(6);
+        return Err(Refusal::Index);
     }
-    let keys = places.keys;
-    let present = Cells {
+    Ok(Cells {
         count: places.count,
-        keys: keys,
+        keys: places.keys,
         vals: words,
-    };
-    Begun {
-        number: 0,
-        count: count,
-        present: present,
-    }
+    })
 }
 
 // 1, 7, 19, 20 and 6, from what was noted of the records, and the present settings.
-fn begin(m: &[u8], s: State, n: Notes) -> Begun
-    ensures { Begins (start_by n.count (beginning (length m.now) (views m.now) (meaning s) n)) result }
+fn begin(m: &[u8], s: &State, n: Notes) -> Result<Cells, Refusal>
+    ensures { Begins (beginning (length m.now) (views m.now) (meaning s.now) n) result }
 {
-    let number = state::parts_refusal(
-        m,
-        s.head,
-        &s.index.keys,
-        &s.index.vals,
-        s.index.count,
-        s.operation,
-        s.progress,
-        &s.group.keys,
-        &s.group.vals,
-        s.group.count,
-    );
-    if number != 0 {
-        return stop(number);
-    }
-    let other = record_refusal(n.rises, n.count);
-    if other != 0 {
-        return stop(other);
-    }
-    let places = s.index;
-    from_index(m, places, n.count)
+    state::check(m, s)?;
+    check_records(n)?;
+    from_index(m, &s.index)
 }
 
-// How many records are to be compared.
-fn turns(b: Begun) -> usize
-    ensures { result ≡ b.count }
+// The records of a list compared with the present settings, one by one.
+fn compare_all(list: &[Record], present: Cells) -> Compared
+    requires { Ready present }
+    ensures { ComesTo (compared_all (listed present) not_compared (wanted_settings list.now)) result }
 {
-    b.count
-}
-
-// One record compared with the present settings.
-fn compare_one(b: Begun, c: Compared, r: Record) -> Compared
-    requires { Ready b × Comparing c }
-    ensures { ComesTo (compared_with (listed b.present) (so_far c) (cell r.valve r.word)) result }
-{
-    let present = b.present;
-    wanted_group::compare(present, c, r.valve, r.word)
-}
-
-// The records of a lent list that are to be compared, one by one.
-fn compare_all(list: &[Record], b: Begun) -> Compared
-    requires { Ready b × (b.count ≤ length list.now) }
-    ensures { ComesTo (compared_all (listed b.present) not_compared (wanted_settings (take b.count list.now))) result }
-{
-    let count = turns(b);
     let mut c = wanted_group::not_compared();
-    let mut i: usize = 0;
-    while i < count {
-        c = compare_one(b, c, list[i]);
-        i += 1;
+    for r in list {
+        c = wanted_group::compare(present, c, r.valve, r.word);
     }
     c
 }
 
-// The answer, when the records have been compared: the refusal before that, or 11, or the group.
-fn close(b: Begun, c: Compared) -> WantedAnswer
-    requires { Ready b × Comparing c }
-    ensures { reply_by result ≡ reply (closing b.number (listed b.present) (so_far c)) }
+// The group that leads from the present settings to the wanted records, or none where more than 96 valves differ.
+fn lead(m: &[u8], s: &State, list: &[Record]) -> Result<Option<Cells>, Refusal>
+    ensures { reply (group_told result) ≡ reply (wanted_of (length m.now) (views m.now) (meaning s.now) (wanted_settings list.now)) }
 {
-    if b.number != 0 {
-        return refused(b.number);
-    }
+    let n = records::gather(list);
+    let present = begin(m, s, n)?;
+    let c = compare_all(&list[..n.count], present);
     if !c.allowed {
-        return refused(11);
+        return Err(Refusal::Entry);
     }
-    let present = b.present;
-    let limited = wanted_group::group(present, c);
-    let group = limited.cells;
-    WantedAnswer {
-        number: 0,
-        found: limited.found,
-        group: group,
-    }
+    Ok(wanted_group::group(present, c))
 }
 
 // The group that leads from the present settings to the wanted records.
 pub fn wanted<'a, 'b>(m: &'a [u8], s: State, list: &'b [Record]) -> WantedAnswer
     ensures { AnswersWanted m.now s list.now result }
 {
-    let n = records::gather(list);
-    let b = begin(m, s, n);
-    let c = compare_all(list, b);
-    close(b, c)
+    WantedAnswer::from(lead(m, &s, list))
 }

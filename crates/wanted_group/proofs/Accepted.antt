@@ -1,7 +1,7 @@
 -- Condition 12 accepts the group.
 use mathlib.Core.Path.{◌≡◌, refl, sym, ap, ◌∙◌}
 use mathlib.Core.Bool.{true, cond}
-use mathlib.Core.Option.{Option, none, some}
+use Rattle.std.proofs.Common.{Option, None, Some}
 use mathlib.Core.List.{List, [], ◌∷◌}
 use Prim.Native.Nat.{ℕ, suc, ◌+◌, ◌-◌, ◌≤◌}
 use native.Mathlib.Omega.{arith}
@@ -61,12 +61,12 @@ within_settings s w (y ∷ ys) l n few q r t a in-y in-l =
     let rest = within_settings s w ys (assign l y) (suc y.key) few q up tail (all_tail is_valve y ys a) later inside in
     ap (within l) (settings_new s y ys b) ∙ within_cons l y (settings_for s ys) u rest)
 
-left_part : (a b : Option ℕ) → is_some (cond (gone a b) none a) ≡ true → is_some b ≡ true
+left_part : (a b : Option ℕ) → is_some (cond (gone a b) None a) ≡ true → is_some b ≡ true
 unfolding is_some
-left_part none none h = h
-left_part none (some y) h = refl
-left_part (some x) none h = h
-left_part (some x) (some y) h = refl
+left_part None None h = h
+left_part None (Some y) h = refl
+left_part (Some x) None h = h
+left_part (Some x) (Some y) h = refl
 
 -- "At most 192 valves are set, counted after each entry in order."
 pub group_within : (s w : List Cell) → rising s ≡ true → rising w ≡ true → all is_valve w ≡ true → length s ≤ 192 → length w ≤ 192

@@ -1,7 +1,7 @@
 -- One wanted record compared with the present settings, and the group, in the shapes that the code's proofs ask.
 use mathlib.Core.Path.{◌≡◌, refl, sym, ap, ◌∙◌}
 use mathlib.Core.Bool.{Bool, true, false, ◌&&◌}
-use mathlib.Core.Option.{some}
+use Rattle.std.proofs.Common.{Some}
 use mathlib.Core.List.{List, [], ◌∷◌, ◌++◌}
 use Prim.Native.Nat.{ℕ, zero, suc, ◌+◌, ◌-◌, ◌≤◌, ◌<◌}
 use native.Mathlib.Omega.{arith}
@@ -24,6 +24,11 @@ use Rattle.wanted_group.specs.declared.Compared.{Compared}
 use Rattle.wanted_group.specs.Group.{same}
 use Rattle.wanted_group.specs.Limited.{LimitedGroup, too_many, limited, limited_by}
 use Rattle.wanted_group.specs.Compare.{SoFar, not_compared, place_of, naming, with_setting, compared_with, unnamed, group_of, so_far, Comparing, ComesTo, PlaceIn}
+
+-- past the end no number stands
+pub held_out : (k i n : ℕ) (ks : List ℕ) → n ≤ i → ltb i n ≡ held_at k i n ks
+unfolding held_at
+held_out k i n ks h = rw (le-ltb i n h)
 
 -- ---- nothing compared yet
 
@@ -106,7 +111,7 @@ below_suc a b =
 
 -- what stands under a valve is what stands at its place
 lookup_place : (k w n : ℕ) (l : List Cell) → rising_from n l ≡ true
-    → (ltb (place_of k l) (length l) && eqb (get_or l (place_of k l) (cell 0 0)).val w) ≡ same (lookup k l) (some w)
+    → (ltb (place_of k l) (length l) && eqb (get_or l (place_of k l) (cell 0 0)).val w) ≡ same (lookup k l) (Some w)
 unfolding place_of same
 lookup_place k w n [] r = rw (lookup_none k)
 lookup_place k w n (x ∷ l) r =
@@ -126,7 +131,7 @@ module _ (n : ℕ) (ks vs : List ℕ) (k at : ℕ) (p : PlaceIn k n ks at) where
       place_by k at (pairs n ks vs) (omega (arith, low, z)) (λ h. let q : at < n = omega (arith, h, z) in key_at_lem at q ∙ p.there q)
       (λ i h e. p.first i h (sym (key_at_lem i (omega (arith, h, low))) ∙ e))
 
-  stands_is : (w : ℕ) → Lent n ks vs → held_at w at n vs ≡ same (lookup k (pairs n ks vs)) (some w)
+  stands_is : (w : ℕ) → Lent n ks vs → held_at w at n vs ≡ same (lookup k (pairs n ks vs)) (Some w)
   unfolding held_at rising
   stands_is w t =
       by_cases (ltb at n)
@@ -136,7 +141,7 @@ module _ (n : ℕ) (ks vs : List ℕ) (k at : ℕ) (p : PlaceIn k n ks at) where
       ∙ ap (λ (m : ℕ). ltb at m && eqb (get_or (pairs n ks vs) at (cell 0 0)).val w) (sym (length_pairs n ks vs)) ∙ on)
       (λ b. rw b (sym (ap (λ (m : ℕ). ltb at m && eqb (get_or (pairs n ks vs) at (cell 0 0)).val w) (length_pairs n ks vs) ∙ rw b) ∙ on))
     where
-      on : (ltb at (length (pairs n ks vs)) && eqb (get_or (pairs n ks vs) at (cell 0 0)).val w) ≡ same (lookup k (pairs n ks vs)) (some w)
+      on : (ltb at (length (pairs n ks vs)) && eqb (get_or (pairs n ks vs) at (cell 0 0)).val w) ≡ same (lookup k (pairs n ks vs)) (Some w)
       on = ap (λ (j : ℕ). ltb j (length (pairs n ks vs)) && eqb (get_or (pairs n ks vs) j (cell 0 0)).val w) place_is
           ∙ lookup_place k w 0 (pairs n ks vs) t.rise
 
@@ -185,7 +190,7 @@ module _ (p : Cells) (c : Compared) (valve word at next : ℕ) (t : Lent p.count
   unfolding naming
   named_is = ap (λ (j : ℕ). record { named = set c.named j 1; allowed = c.allowed; more = c.more; sets = sets }) (place_is p.count p.keys p.vals valve at w)
 
-  told : (d : Bool) → b ≡ d → same (lookup valve (listed p)) (some word) ≡ d
+  told : (d : Bool) → b ≡ d → same (lookup valve (listed p)) (Some word) ≡ d
   told d z = sym (stands_is p.count p.keys p.vals valve at w word t) ∙ sym f ∙ z
 
   pub compare_same : b ≡ true → Comparing c
@@ -228,14 +233,11 @@ module _ (p : Cells) (c : Compared) (valve word at next : ℕ) (t : Lent p.count
 
 -- ---- the group
 
-pub many_are : (g : Cells) → g.count ≡ 0 → listed g ≡ [] → Kept g.count (limited_by (record { found = false; cells = g })) too_many
-many_are g z e = record { few = omega (arith, z); so = ap (λ (l : List Cell). record { found = false; entries = l }) e }
-
-module _ (s : List Setting) (t : SoFar) (k : ℕ) (r : LimitedGroup) where
-  pub group_more : t.more ≡ true → Kept k r too_many → Kept k r (group_of s t)
+module _ (s : List Setting) (t : SoFar) where
+  pub group_more : t.more ≡ true → Kept 0 too_many (group_of s t)
   unfolding group_of
-  group_more e g = record { few = g.few; so = rw e g.so }
+  group_more e = record { few = omega arith; so = rw e }
 
-  pub group_whole : t.more ≡ false → (a : List Cell) (n : ℕ) → Kept n a (unnamed t.named s) → Kept k r (limited (a ++ t.sets)) → Kept k r (group_of s t)
+  pub group_whole : (k : ℕ) (r : LimitedGroup) → t.more ≡ false → (a : List Cell) (n : ℕ) → Kept n a (unnamed t.named s) → Kept k r (limited (a ++ t.sets)) → Kept k r (group_of s t)
   unfolding group_of
-  group_whole e a n h g = record { few = g.few; so = rw e (g.so ∙ ap (λ (l : List Cell). limited (l ++ t.sets)) h.so) }
+  group_whole k r e a n h g = record { few = g.few; so = rw e (g.so ∙ ap (λ (l : List Cell). limited (l ++ t.sets)) h.so) }

@@ -1,7 +1,7 @@
 -- Condition 11 of the group: it accepts all but a setting of valve 0, which the group has where valve 0 is wanted and does not stand so.
 use mathlib.Core.Path.{◌≡◌, refl, sym, ap, ◌∙◌}
 use mathlib.Core.Bool.{Bool, true, false, cond, not}
-use mathlib.Core.Option.{Option, none, some}
+use Rattle.std.proofs.Common.{Option, None, Some}
 use mathlib.Core.List.{List, [], ◌∷◌, ◌++◌}
 use Prim.Native.Nat.{ℕ, zero, suc, ◌+◌, ◌≤◌, ◌<◌}
 use native.Mathlib.Omega.{arith}
@@ -71,8 +71,8 @@ ok_settings s (y ∷ ys) n h r a =
 
 -- valve 0 is not wanted, or stands so
 abbrev zero_stands : Option ℕ → Option ℕ → Bool
-zero_stands o none = true
-zero_stands o (some x) = same o (some x)
+zero_stands o None = true
+zero_stands o (Some x) = same o (Some x)
 
 positive : (k : ℕ) → (0 ≡ k → ⊥) → 0 < k
 positive zero h = absurd (h refl)
@@ -89,7 +89,7 @@ settings_allowed s (y ∷ ys) r a =
     (λ h.
     let here : (b : Bool) → stands s y ≡ b → b ≡ zero_stands (lookup 0 s) (lookup 0 (y ∷ ys))
     = λ b e. sym e
-    ∙ ap (λ (k : ℕ). same (lookup k s) (some y.val)) (sym h)
+    ∙ ap (λ (k : ℕ). same (lookup k s) (Some y.val)) (sym h)
     ∙ sym (ap (zero_stands (lookup 0 s)) (lookup_here 0 y ys h)) in
     let none_below : y.key < 1 = omega (arith, h) in
     by_cases (stands s y)
@@ -116,11 +116,11 @@ spares_zero es = all (λ e. not (eqb e.key 0)) es
 
 stands_itself : (o : Option ℕ) → zero_stands o o ≡ true
 unfolding same
-stands_itself none = refl
-stands_itself (some x) = eq-eqb x x refl
+stands_itself None = refl
+stands_itself (Some x) = eq-eqb x x refl
 
 -- an entry for valve 0 that does not set it removes it
-removes_zero : (e : Cell) → not (eqb e.key 0) ≡ true → 0 ≡ valve e → word e ≡ none
+removes_zero : (e : Cell) → not (eqb e.key 0) ≡ true → 0 ≡ valve e → word e ≡ None
 unfolding valve word
 removes_zero e h = by_cases (ltb e.key 32768) (λ b. rw b (λ z. true_false (eq-eqb e.key 0 (sym z)) (not-true (eqb e.key 0) h))) (λ b. rw b (λ z. refl))
 

@@ -1,7 +1,7 @@
 -- The group has an entry for each valve that differs, and no list with fewer entries leads to the wanted settings.
 use mathlib.Core.Path.{◌≡◌, refl, sym, ap, ◌∙◌}
 use mathlib.Core.Bool.{Bool, true, false, not}
-use mathlib.Core.Option.{Option, none, some}
+use Rattle.std.proofs.Common.{Option, None, Some}
 use mathlib.Core.List.{List, [], ◌∷◌}
 use Prim.Native.Nat.{ℕ, suc, ◌+◌, ◌≤◌, ◌<◌}
 use native.Mathlib.Omega.{arith}
@@ -75,15 +75,15 @@ module _ (s : List Cell) where
 -- a valve that differs is gone or changed, not both
 differ_parts : (a b : Option ℕ) → one_if (not (same a b)) ≡ one_if (gone a b) + one_if (changed b a)
 unfolding same one_if is_some
-differ_parts none none = refl
-differ_parts none (some y) = refl
-differ_parts (some x) none = refl
-differ_parts (some x) (some y) = sym (zero-add (one_if (not (eqb x y))))
+differ_parts None None = refl
+differ_parts None (Some y) = refl
+differ_parts (Some x) None = refl
+differ_parts (Some x) (Some y) = sym (zero-add (one_if (not (eqb x y))))
 
 same_same : (a : Option ℕ) → not (same a a) ≡ false
 unfolding same
-same_same none = refl
-same_same (some x) = rw (eq-eqb x x refl)
+same_same None = refl
+same_same (Some x) = rw (eq-eqb x x refl)
 
 abbrev differs : List Cell → List Cell → ℕ → Bool
 differs s w k = not (same (lookup k s) (lookup k w))

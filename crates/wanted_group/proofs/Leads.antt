@@ -1,7 +1,7 @@
 -- The group leads to the wanted settings: what it says, last, of each valve is what the wanted settings have.
 use mathlib.Core.Path.{◌≡◌, refl, sym, ap, ◌∙◌}
 use mathlib.Core.Bool.{Bool, true, false, cond, not, ◌&&◌}
-use mathlib.Core.Option.{Option, none, some}
+use Rattle.std.proofs.Common.{Option, None, Some}
 use mathlib.Core.List.{List, [], ◌∷◌, ◌++◌}
 use Prim.Native.Nat.{ℕ, suc, ◌+◌, ◌-◌, ◌≤◌}
 use native.Mathlib.Omega.{arith}
@@ -54,7 +54,7 @@ removal_valve : (x : Cell) → valve (removal x) ≡ x.key
 unfolding valve
 removal_valve x = let h : 32768 ≤ x.key + 32768 = omega arith in let e : x.key + 32768 - 32768 ≡ x.key = omega arith in rw (le-ltb (x.key + 32768) 32768 h, e)
 
-removal_word : (x : Cell) → word (removal x) ≡ none
+removal_word : (x : Cell) → word (removal x) ≡ None
 unfolding word
 removal_word x = let h : 32768 ≤ x.key + 32768 = omega arith in rw (le-ltb (x.key + 32768) 32768 h)
 
@@ -62,7 +62,7 @@ pub setting_valve : (y : Cell) → is_valve y ≡ true → valve y ≡ y.key
 unfolding valve is_valve
 setting_valve y h = rw h
 
-setting_word : (y : Cell) → is_valve y ≡ true → word y ≡ some y.val
+setting_word : (y : Cell) → is_valve y ≡ true → word y ≡ Some y.val
 unfolding word is_valve
 setting_word y h = rw h
 
@@ -73,7 +73,7 @@ abbrev pub is_wanted : List Cell → Cell → Bool
 is_wanted w x = is_some (lookup x.key w)
 
 abbrev pub stands : List Cell → Cell → Bool
-stands s y = same (lookup y.key s) (some y.val)
+stands s y = same (lookup y.key s) (Some y.val)
 
 module _ (x : Cell) (xs w : List Cell) where
   pub removals_kept : is_wanted w x ≡ true → removals_for (x ∷ xs) w ≡ removals_for xs w
@@ -94,7 +94,7 @@ module _ (s : List Cell) (y : Cell) (ys : List Cell) where
   settings_new h = rw h
 
 -- what stands under the first valve of a rising list does not stand in the rest
-pub rest_none : (k : ℕ) (x : Cell) (xs : List Cell) → rising_from (suc x.key) xs ≡ true → k ≡ x.key → lookup k xs ≡ none
+pub rest_none : (k : ℕ) (x : Cell) (xs : List Cell) → rising_from (suc x.key) xs ≡ true → k ≡ x.key → lookup k xs ≡ None
 rest_none k x xs r h = lookup_below k (suc x.key) xs (omega (arith, h)) r
 
 -- ---- removals: a valve that is set and not wanted
@@ -102,34 +102,34 @@ rest_none k x xs r h = lookup_below k (suc x.key) xs (omega (arith, h)) r
 abbrev pub gone : Option ℕ → Option ℕ → Bool
 gone a b = is_some a && not (is_some b)
 
-pub gone_none : (b : Option ℕ) → gone none b ≡ false
+pub gone_none : (b : Option ℕ) → gone None b ≡ false
 unfolding is_some
 gone_none b = refl
 
-pub gone_some : (x : ℕ) (b : Option ℕ) → gone (some x) b ≡ not (is_some b)
+pub gone_some : (x : ℕ) (b : Option ℕ) → gone (Some x) b ≡ not (is_some b)
 unfolding is_some
 gone_some x b = refl
 
 gone_wanted : (a b : Option ℕ) → is_some b ≡ true → gone a b ≡ false
 unfolding is_some
-gone_wanted none b h = refl
-gone_wanted (some x) b h = rw h
+gone_wanted None b h = refl
+gone_wanted (Some x) b h = rw h
 
-cond_none : (t : Bool) → cond {A = Option ℕ} t none none ≡ none
+cond_none : (t : Bool) → cond {A = Option ℕ} t None None ≡ None
 cond_none true = refl
 cond_none false = refl
 
 -- what a valve that had o has after the removals
 abbrev left : List Cell → List Cell → ℕ → Option ℕ → Option ℕ
-left s w k o = cond (gone (lookup k s) (lookup k w)) none o
+left s w k o = cond (gone (lookup k s) (lookup k w)) None o
 
 pub told_removals : (s w : List Cell) (k n : ℕ) (o : Option ℕ) → rising_from n s ≡ true → told k (removals_for s w) o ≡ left s w k o
 unfolding removals_for
 told_removals [] w k n o r =
-    sym (ap (λ (t : Option ℕ). cond (gone t (lookup k w)) none o) (lookup_none k) ∙ ap (λ (t : Bool). cond t none o) (gone_none (lookup k w)))
+    sym (ap (λ (t : Option ℕ). cond (gone t (lookup k w)) None o) (lookup_none k) ∙ ap (λ (t : Bool). cond t None o) (gone_none (lookup k w)))
 told_removals (x ∷ xs) w k n o r =
     let tail = rising_tail n x xs r in
-    let other : (k ≡ x.key → ⊥) → left xs w k o ≡ left (x ∷ xs) w k o = λ h. ap (λ (t : Option ℕ). cond (gone t (lookup k w)) none o) (sym (lookup_other k x xs tail h)) in
+    let other : (k ≡ x.key → ⊥) → left xs w k o ≡ left (x ∷ xs) w k o = λ h. ap (λ (t : Option ℕ). cond (gone t (lookup k w)) None o) (sym (lookup_other k x xs tail h)) in
     by_cases (is_wanted w x)
     (λ b.
     ap (λ (t : List Cell). told k t o) (removals_kept x xs w b)
@@ -137,7 +137,7 @@ told_removals (x ∷ xs) w k n o r =
     ∙ by_eq k x.key
     (λ h.
     let in-w = ap (λ (t : ℕ). is_some (lookup t w)) h ∙ b in
-    ap (λ (t : Bool). cond t none o) (gone_wanted (lookup k xs) (lookup k w) in-w ∙ sym (gone_wanted (lookup k (x ∷ xs)) (lookup k w) in-w)))
+    ap (λ (t : Bool). cond t None o) (gone_wanted (lookup k xs) (lookup k w) in-w ∙ sym (gone_wanted (lookup k (x ∷ xs)) (lookup k w) in-w)))
     other)
     (λ b.
     ap (λ (t : List Cell). told k t o) (removals_gone x xs w b)
@@ -146,21 +146,21 @@ told_removals (x ∷ xs) w k n o r =
     let not-w = gone_some x.val (lookup k w) ∙ ap not (ap (λ (t : ℕ). is_some (lookup t w)) h ∙ b) in
     told_it k (removal x) (removals_for xs w) o (h ∙ sym (removal_valve x))
     ∙ ap (told k (removals_for xs w)) (removal_word x)
-    ∙ told_removals xs w k (suc x.key) none tail
+    ∙ told_removals xs w k (suc x.key) None tail
     ∙ cond_none (gone (lookup k xs) (lookup k w))
-    ∙ sym (ap (λ (t : Option ℕ). cond (gone t (lookup k w)) none o) (lookup_here k x xs h) ∙ ap (λ (t : Bool). cond t none o) not-w))
+    ∙ sym (ap (λ (t : Option ℕ). cond (gone t (lookup k w)) None o) (lookup_here k x xs h) ∙ ap (λ (t : Bool). cond t None o) not-w))
     (λ h. told_else k (removal x) (removals_for xs w) o (λ e. h (e ∙ removal_valve x)) ∙ told_removals xs w k (suc x.key) o tail ∙ other h))
 
 -- ---- settings: a valve that is wanted and does not stand so
 
 abbrev pub changed : Option ℕ → Option ℕ → Bool
-changed none t = false
-changed (some v) t = not (same t (some v))
+changed None t = false
+changed (Some v) t = not (same t (Some v))
 
 -- what a valve that had o has after the settings, where t stands and a is wanted
 abbrev chosen : Option ℕ → Option ℕ → Option ℕ → Option ℕ
-chosen none t o = o
-chosen (some v) t o = cond (same t (some v)) o (some v)
+chosen None t o = o
+chosen (Some v) t o = cond (same t (Some v)) o (Some v)
 
 told_settings : (s w : List Cell) (k n : ℕ) (o : Option ℕ) → rising_from n w ≡ true → all is_valve w ≡ true
     → told k (settings_for s w) o ≡ chosen (lookup k w) (lookup k s) o
@@ -172,9 +172,9 @@ told_settings s (y ∷ ys) k n o r a =
     let rest = all_tail is_valve y ys a in
     let other : (k ≡ y.key → ⊥) → chosen (lookup k ys) (lookup k s) o ≡ chosen (lookup k (y ∷ ys)) (lookup k s) o
     = λ h. ap (λ (t : Option ℕ). chosen t (lookup k s) o) (sym (lookup_other k y ys tail h)) in
-    let here : (b : Bool) → stands s y ≡ b → k ≡ y.key → chosen (lookup k (y ∷ ys)) (lookup k s) o ≡ cond b o (some y.val)
+    let here : (b : Bool) → stands s y ≡ b → k ≡ y.key → chosen (lookup k (y ∷ ys)) (lookup k s) o ≡ cond b o (Some y.val)
     = λ b e h. ap (λ (t : Option ℕ). chosen t (lookup k s) o) (lookup_here k y ys h)
-    ∙ ap (λ (t : Bool). cond t o (some y.val)) (ap (λ (t : ℕ). same (lookup t s) (some y.val)) h ∙ e) in
+    ∙ ap (λ (t : Bool). cond t o (Some y.val)) (ap (λ (t : ℕ). same (lookup t s) (Some y.val)) h ∙ e) in
     by_cases (stands s y)
     (λ b.
     ap (λ (t : List Cell). told k t o) (settings_same s y ys b)
@@ -186,19 +186,19 @@ told_settings s (y ∷ ys) k n o r a =
     (λ h.
     told_it k y (settings_for s ys) o (h ∙ sym (setting_valve y lowy))
     ∙ ap (told k (settings_for s ys)) (setting_word y lowy)
-    ∙ told_settings s ys k (suc y.key) (some y.val) tail rest
-    ∙ ap (λ (t : Option ℕ). chosen t (lookup k s) (some y.val)) (rest_none k y ys tail h)
+    ∙ told_settings s ys k (suc y.key) (Some y.val) tail rest
+    ∙ ap (λ (t : Option ℕ). chosen t (lookup k s) (Some y.val)) (rest_none k y ys tail h)
     ∙ sym (here false b h))
     (λ h. told_else k y (settings_for s ys) o (λ e. h (e ∙ setting_valve y lowy)) ∙ told_settings s ys k (suc y.key) o tail rest ∙ other h))
 
 -- ---- both
 
-picked : (a b : Option ℕ) → chosen a b (cond (gone b a) none b) ≡ a
+picked : (a b : Option ℕ) → chosen a b (cond (gone b a) None b) ≡ a
 unfolding is_some same
-picked none none = refl
-picked none (some x) = refl
-picked (some v) none = refl
-picked (some v) (some x) = by_eq x v (λ h. rw (eq-eqb _ _ h) (ap some h)) (λ h. rw (ne_eqb _ _ h))
+picked None None = refl
+picked None (Some x) = refl
+picked (Some v) None = refl
+picked (Some v) (Some x) = by_eq x v (λ h. rw (eq-eqb _ _ h) (ap Some h)) (λ h. rw (ne_eqb _ _ h))
 
 -- "leave exactly the wanted settings"
 pub group_leads : (s w : List Cell) → rising s ≡ true → rising w ≡ true → all is_valve w ≡ true → assign_all s (group_for s w) ≡ w

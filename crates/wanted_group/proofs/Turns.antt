@@ -1,6 +1,7 @@
 -- The loops of the code: the entries put out so far, and those still to come.
 use mathlib.Core.Path.{◌≡◌, refl, sym, ap, ◌∙◌}
 use mathlib.Core.Bool.{true}
+use Rattle.std.proofs.Common.{Some}
 use mathlib.Core.List.{List, [], ◌∷◌, ◌++◌, append-nil}
 use Prim.Native.Nat.{ℕ, suc, ◌+◌, ◌≤◌, ◌<◌}
 use native.Mathlib.Omega.{arith}
@@ -187,15 +188,15 @@ length_both a b =
     let y = length_pairs b.count b.keys b.vals in
     omega (arith, z, x, y)
 
-pub append_over : (a : Cells) (b : Compared) (n : ℕ) (r : LimitedGroup) → 96 < a.count + b.count → Kept n r too_many → Kept n r (limited (listed a ++ sets_in b))
+pub append_over : (a : Cells) (b : Compared) → 96 < a.count + b.count → Kept 0 too_many (limited (listed a ++ sets_in b))
 unfolding limited
-append_over a b n r h g =
+append_over a b h =
     let y = length_both a b in
     let big : 96 < length (listed a ++ sets_in b) = omega (arith, y, h) in
-    record { few = g.few; so = g.so ∙ rw (lt-leb _ _ big) }
+    record { few = omega arith; so = rw (lt-leb _ _ big) }
 
 pub append_end : (a : Cells) (b : Compared) (n i : ℕ) (ks vs : List ℕ) → b.count ≤ i → a.count + b.count ≤ 96 → Appending a b n i ks vs
-    → Kept n (limited_by (record { found = true; cells = cells_of n ks vs })) (limited (listed a ++ sets_in b))
+    → Kept n (limited_by (Some (cells_of n ks vs))) (limited (listed a ++ sets_in b))
 unfolding limited
 append_end a b n i ks vs h few g =
     let past = ap (λ (t : List Cell). pairs n ks vs ++ t) (sym (pairs_past b.count b.keys b.vals i h)) in

@@ -1,7 +1,7 @@
 -- Wanted records compared with the present settings, which rise by valve, one by one: which of these a record has named, and which records
 -- do not stand so. As the code has it; `proofs/Together` shows that it comes to the group of `Group`.
 use Rattle.std.specs.Prelude.{◌≡◌, Bool, true, false, cond, ◌&&◌, List, [], ◌∷◌, ◌++◌, ℕ, suc, ◌+◌, ◌≤◌, ◌<◌, length, get_or, set, replicate, leb, ltb, eqb}
-use Rattle.std.proofs.Math.Option.{some}
+use Rattle.std.specs.Prelude.{Some}
 use Rattle.lists.specs.Cells.{cell, Entry, Setting, pairs}
 use Rattle.index.specs.Index.{lookup}
 use Rattle.wanted_group.specs.declared.Compared.{Compared}
@@ -37,7 +37,7 @@ with_setting t y =
 
 -- one record more: its valve is named, and where it does not stand so, it is one setting more
 unfoldable pub compared_with : List Setting → SoFar → Setting → SoFar
-compared_with s t y = cond (same (lookup y.key s) (some y.val)) (naming s y.key t) (with_setting (naming s y.key t) y)
+compared_with s t y = cond (same (lookup y.key s) (Some y.val)) (naming s y.key t) (with_setting (naming s y.key t) y)
 
 -- records in order
 unfoldable pub compared_all : List Setting → SoFar → List Setting → SoFar

@@ -7,7 +7,7 @@ ghost use Rattle.lists.specs.Cells.{cell, listed, pairs};
 ghost use Rattle.index.specs.Search.{Kept};
 ghost use Rattle.index.specs.Lent.{held_at, Lent};
 ghost use Rattle.wanted_group.specs.Group.{is_valve};
-ghost use Rattle.wanted_group.specs.Limited.{too_many, limited, limited_by};
+ghost use Rattle.wanted_group.specs.Limited.{limited, limited_by, cells_in};
 ghost use Rattle.wanted_group.specs.Compare.{not_compared, compared_with, unnamed, group_of, so_far, Comparing, ComesTo, PlaceIn};
 
 use lists::Cells;
@@ -49,21 +49,16 @@ fn is_at(keys: &[u16], n: usize, at: usize, valve: u16) -> bool
     requires { n ≤ length keys.now }
     ensures { result ≡ held_at valve at n keys.now }
 {
-    if n <= at {
-        return false;
-    }
-    keys[at] == valve
+    at < n && keys[at] == valve
 }
 
 // The same of a word.
+// Kept: a twin of `is_at`, since the clause of both speaks of a number, which an element of a generic type is not.
 fn has_word(vals: &[u64], n: usize, at: usize, word: u64) -> bool
     requires { n ≤ length vals.now }
     ensures { result ≡ held_at word at n vals.now }
 {
-    if n <= at {
-        return false;
-    }
-    vals[at] == word
+    at < n && vals[at] == word
 }
 
 // The place of a valve among the first n keys, n where it stands at none. A likely place is looked at first.
@@ -85,10 +80,7 @@ fn place_of<'a>(keys: &'a [u16], vals: &'a [u64], n: usize, likely: usize, valve
 fn still_allowed(allowed: bool, valve: u16) -> bool
     ensures { result ≡ (allowed && leb 1 valve) }
 {
-    if valve == 0 {
-        return false;
-    }
-    allowed
+    allowed && 1 <= valve
 }
 
 // One wanted record, a valve and its word, compared with the present settings: its valve is named, and where it does not stand so, it is
@@ -122,83 +114,52 @@ fn removals(present: Cells, c: Compared) -> Cells
     requires { (present.count ≤ 192) × (all is_valve (listed present) ≡ true) }
     ensures { Kept result.count (listed result) (unnamed c.named (listed present)) }
 {
-    let n = present.count;
     let mut keys = [0u16; 192];
     let mut vals = [0u64; 192];
-    let mut k: usize = 0;
-    let mut i: usize = 0;
-    while i < n {
+    let mut count = 0;
+    for i in 0..present.count {
         if c.named[i] != 0 {
-            i += 1;
             continue;
         }
-        keys[k] = present.keys[i] + 32768;
-        vals[k] = 0;
-        k += 1;
-        i += 1;
+        keys[count] = present.keys[i] + 32768;
+        vals[count] = 0;
+        count += 1;
     }
-    Cells {
-        count: k,
-        keys: keys,
-        vals: vals,
-    }
+    Cells { count, keys, vals }
 }
 
-// At most 96 entries. With `found` false there would be more, and `cells` holds none.
-#[derive(Clone, Copy)]
-pub struct Limited {
-    pub found: bool,
-    pub cells: Cells,
-}
-
-// More than 96 entries.
-fn too_many() -> Limited
-    ensures { Kept result.cells.count (limited_by result) too_many }
-{
-    let no_entries = index::empty();
-    Limited {
-        found: false,
-        cells: no_entries,
-    }
-}
-
-// The removals, and after them the settings that do not stand so.
-fn appended(a: Cells, c: Compared) -> Limited
+// The removals, and after them the settings that do not stand so; none where these are more than 96.
+fn appended(a: Cells, c: Compared) -> Option<Cells>
     requires { (a.count ≤ 192) × (c.count ≤ 96) }
-    ensures { Kept result.cells.count (limited_by result) (limited (listed a ++ pairs c.count c.keys c.vals)) }
+    ensures { Kept (cells_in result) (limited_by result) (limited (listed a ++ pairs c.count c.keys c.vals)) }
 {
     let count = c.count;
     if 96 < a.count + count {
-        return too_many();
+        return None;
     }
     let mut keys = a.keys;
     let mut vals = a.vals;
     let mut n = a.count;
-    let mut i: usize = 0;
-    while i < count {
+    for i in 0..count {
         keys[n] = c.keys[i];
         vals[n] = c.vals[i];
         n += 1;
-        i += 1;
     }
-    let cells = Cells {
+    Some(Cells {
         count: n,
-        keys: keys,
-        vals: vals,
-    };
-    Limited {
-        found: true,
-        cells: cells,
-    }
+        keys,
+        vals,
+    })
 }
 
-// The fewest entries that make the wanted settings of the present ones, removals first, when every wanted record has been compared.
-pub fn group(present: Cells, c: Compared) -> Limited
+// The fewest entries that make the wanted settings of the present ones, removals first, when every wanted record has been compared;
+// none where these are more than 96.
+pub fn group(present: Cells, c: Compared) -> Option<Cells>
     requires { (present.count ≤ 192) × (all is_valve (listed present) ≡ true) × Comparing c }
-    ensures { Kept result.cells.count (limited_by result) (group_of (listed present) (so_far c)) }
+    ensures { Kept (cells_in result) (limited_by result) (group_of (listed present) (so_far c)) }
 {
     if c.more {
-        return too_many();
+        return None;
     }
     let a = removals(present, c);
     appended(a, c)

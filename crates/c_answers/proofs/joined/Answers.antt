@@ -1,6 +1,4 @@
-use Rattle.c_answers.proofs.Laws.{JoinedTo, joined_start, joined_next, joined_end}
-use Prim.Native.Nat.{◌-◌}
-use Rattle.c_answers.specs.Forms.{most_counts}
+use Rattle.c_answers.proofs.Laws.{joined_start, joined_next, joined_end}
 use borrow.Author.Rules.{rules}
 use Rattle.c_answers.proofs.joined.Goals as goal
 

@@ -8,6 +8,6 @@ pub returns-then-is_whole : goal.returns-then-is_whole
 unfolding ascii
 returns-then-is_whole c = search (class_whole, puts_then, rules)
 
-pub returns : goal.returns
+pub returns-else-is_whole : goal.returns-else-is_whole
 unfolding ascii
-returns c = search (class_spoilt, puts_then, rules)
+returns-else-is_whole c = search (class_spoilt, puts_then, rules)

@@ -1,9 +1,8 @@
-use Rattle.page_text.specs.PageText.{flags_text}
+use Rattle.page_text.specs.PageText.{field_text, flags_text}
 use Rattle.text.proofs.Laws.{puts_then}
 use Rattle.text.specs.Text.{ascii}
-use borrow.Author.Rules.{rules}
 use Rattle.page_text.proofs.flags.Goals as goal
 
 pub returns : goal.returns
-unfolding flags_text ascii
-returns c = search (puts_then, rules)
+unfolding flags_text field_text ascii
+returns c = puts_then (rw c.from.ensures at c.field.ensures) c.flags_name.ensures

@@ -3,22 +3,22 @@ use Rattle.text.specs.Text.{ascii}
 use borrow.Author.Rules.{rules}
 use Rattle.page_text.proofs.flags_name.Goals as goal
 
-pub returns-then-flags-eq0 : goal.returns-then-flags-eq0
+pub returns-in-0 : goal.returns-in-0
 unfolding ascii
-returns-then-flags-eq0 c = search (flags_neither, rules)
+returns-in-0 c = search (flags_neither, rules)
 
-pub returns-then-flags-eq1 : goal.returns-then-flags-eq1
+pub returns-in-1 : goal.returns-in-1
 unfolding ascii
-returns-then-flags-eq1 c = search (flags_begin, rules)
+returns-in-1 c = search (flags_begin, rules)
 
-pub returns-then-flags-eq2 : goal.returns-then-flags-eq2
+pub returns-in-2 : goal.returns-in-2
 unfolding ascii
-returns-then-flags-eq2 c = search (flags_end, rules)
+returns-in-2 c = search (flags_end, rules)
 
-pub returns-then-flags-eq3 : goal.returns-then-flags-eq3
+pub returns-in-3 : goal.returns-in-3
 unfolding ascii
-returns-then-flags-eq3 c = search (flags_both, rules)
+returns-in-3 c = search (flags_both, rules)
 
-pub returns : goal.returns
+pub returns-in_default : goal.returns-in_default
 unfolding ascii
-returns c = search (flags_other, rules)
+returns-in_default c = search (flags_other, rules)

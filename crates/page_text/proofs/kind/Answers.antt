@@ -1,9 +1,8 @@
-use Rattle.page_text.specs.PageText.{kind_text}
+use Rattle.page_text.specs.PageText.{field_text, kind_text}
 use Rattle.text.proofs.Laws.{puts_then}
 use Rattle.text.specs.Text.{ascii}
-use borrow.Author.Rules.{rules}
 use Rattle.page_text.proofs.kind.Goals as goal
 
 pub returns : goal.returns
-unfolding kind_text ascii
-returns c = search (puts_then, rules)
+unfolding kind_text field_text ascii
+returns c = puts_then (rw c.from.ensures at c.field.ensures) c.kind_name.ensures

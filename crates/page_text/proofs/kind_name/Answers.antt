@@ -3,22 +3,22 @@ use Rattle.text.specs.Text.{ascii}
 use borrow.Author.Rules.{rules}
 use Rattle.page_text.proofs.kind_name.Goals as goal
 
-pub returns-then-kind-eq1 : goal.returns-then-kind-eq1
+pub returns-in-1 : goal.returns-in-1
 unfolding ascii
-returns-then-kind-eq1 c = search (kind_nodes, rules)
+returns-in-1 c = search (kind_nodes, rules)
 
-pub returns-then-kind-eq2 : goal.returns-then-kind-eq2
+pub returns-in-2 : goal.returns-in-2
 unfolding ascii
-returns-then-kind-eq2 c = search (kind_base, rules)
+returns-in-2 c = search (kind_base, rules)
 
-pub returns-then-kind-eq3 : goal.returns-then-kind-eq3
+pub returns-in-3 : goal.returns-in-3
 unfolding ascii
-returns-then-kind-eq3 c = search (kind_moved, rules)
+returns-in-3 c = search (kind_moved, rules)
 
-pub returns-then-kind-eq4 : goal.returns-then-kind-eq4
+pub returns-in-4 : goal.returns-in-4
 unfolding ascii
-returns-then-kind-eq4 c = search (kind_small, rules)
+returns-in-4 c = search (kind_small, rules)
 
-pub returns : goal.returns
+pub returns-in_default : goal.returns-in_default
 unfolding ascii
-returns c = search (kind_other, rules)
+returns-in_default c = search (kind_other, rules)

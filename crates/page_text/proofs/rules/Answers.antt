@@ -7,6 +7,6 @@ pub returns-then-is_lawful : goal.returns-then-is_lawful
 unfolding ascii
 returns-then-is_lawful c = search (rules_kept, rules)
 
-pub returns : goal.returns
+pub returns-else-is_lawful : goal.returns-else-is_lawful
 unfolding ascii
-returns c = search (rules_broken, rules)
+returns-else-is_lawful c = search (rules_broken, rules)

@@ -1,5 +1,5 @@
-use borrow.Author.Rules.{rules}
 use Rattle.page_text.proofs.Medium.{whole_long, whole_all}
+use borrow.Author.Rules.{rules}
 use Rattle.page_text.proofs.window.Goals as goal
 
 pub returns-then-m-gt-BYTES : goal.returns-then-m-gt-BYTES

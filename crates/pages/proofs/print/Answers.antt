@@ -1,48 +1,53 @@
-use Rattle.std.proofs.Common.{◌≡◌, ◌+◌, refl, sym, ◌∙◌, arith}
-use Rattle.text.proofs.Parts.{part_seen, printing_end, printing_next, printing_less, printing_within, printing_bytes}
+use Rattle.std.proofs.Common.{◌≡◌, ◌+◌, length, arith}
+use Rattle.text.proofs.Parts.{part_seen, prints_all, printing_end, printing_next, printing_less, printing_within, printing_bytes}
 use Rattle.pages.proofs.print.Goals as goal
 
 pub write_part-requires : goal.write_part-requires
-write_part-requires g c = part_seen _ _ _ _ c.window-k.ensures
+write_part-requires g c = part_seen _ _ _ _ c.window.ensures _ c.as_bytes-part.ensures
 
 pub returns-then-not-write_part-clause-gave : goal.returns-then-not-write_part-clause-gave
 returns-then-not-write_part-clause-gave g c =
-    let i = c.loop-from.invariant in
+    let i = c.loop-part.invariant in
     let w = c.write_part.ensures in
+    let e = c.as_bytes-part.ensures in
     record {
-      count = c.loop-from.from + w.count;
-      within = printing_within _ _ _ _ i.printing _ _ c.window-k.ensures _ w.within;
-      bytes = printing_bytes _ _ _ _ i.printing _ _ c.window-k.ensures _ w.within _ _ _ i.bytes w.bytes;
+      count = c.loop-part.from + w.count;
+      within = printing_within _ _ _ _ i.printing _ c.window.ensures _ e _ w.within;
+      bytes = printing_bytes _ _ _ _ i.printing _ c.window.ensures _ e _ w.within _ _ _ i.bytes w.bytes;
       all = λ e. cc;
     }
 
-pub returns-then-k-out-clause-all : goal.returns-then-k-out-clause-all
-returns-then-k-out-clause-all g c = printing_end _ _ _ _ c.loop-from.invariant.printing _ _ c.window-k.ensures c.if-k-out.true
+pub returns-then-not-is_full-clause-all : goal.returns-then-not-is_full-clause-all
+returns-then-not-is_full-clause-all g c =
+    prints_all _ _
+    (printing_end _ _ _ _ c.loop-part.invariant.printing _ c.window.ensures _ c.as_bytes-part.ensures _ c.is_full.ensures c.if-not-is_full.true)
 
-pub returns-then-k-out-clause-gave : goal.returns-then-k-out-clause-gave
-returns-then-k-out-clause-gave g c =
-    let i = c.loop-from.invariant in
-    let s = c.window-k.ensures in
+pub returns-then-not-is_full-clause-gave : goal.returns-then-not-is_full-clause-gave
+returns-then-not-is_full-clause-gave g c =
+    let i = c.loop-part.invariant in
+    let s = c.window.ensures in
     let w = c.write_part.ensures in
-    let whole : w.count ≡ c.window-k.result = w.all c.if-not-write_part.false ∙ sym s.holds.part in
+    let e = c.as_bytes-part.ensures in
+    let whole : w.count ≡ length c.as_bytes-part.result.now = w.all c.if-not-write_part.false in
     record {
-      count = c.loop-from.from + w.count;
-      within = printing_within _ _ _ _ i.printing _ _ s _ w.within;
-      bytes = printing_bytes _ _ _ _ i.printing _ _ s _ w.within _ _ _ i.bytes w.bytes;
-      all = λ _. rw whole ((printing_end _ _ _ _ i.printing _ _ s c.if-k-out.true).all refl);
+      count = c.loop-part.from + w.count;
+      within = printing_within _ _ _ _ i.printing _ s _ e _ w.within;
+      bytes = printing_bytes _ _ _ _ i.printing _ s _ e _ w.within _ _ _ i.bytes w.bytes;
+      all = λ _. rw whole (printing_end _ _ _ _ i.printing _ s _ e _ c.is_full.ensures c.if-not-is_full.true);
     }
 
-pub loop-from-smaller : goal.loop-from-smaller
-loop-from-smaller g c =
-    printing_less _ _ _ _ c.loop-from.invariant.printing _ _ c.window-k.ensures c.if-k-out.false (omega arith) (omega arith)
+pub loop-part-smaller : goal.loop-part-smaller
+loop-part-smaller g c =
+    printing_less _ _ _ _ c.loop-part.invariant.printing _ c.window.ensures _ c.as_bytes-part.ensures _ c.is_full.ensures c.if-not-is_full.false (omega arith)
 
-pub loop-from-preserved : goal.loop-from-preserved
-loop-from-preserved g c =
-    let i = c.loop-from.invariant in
-    let s = c.window-k.ensures in
+pub loop-part-preserved : goal.loop-part-preserved
+loop-part-preserved g c =
+    let i = c.loop-part.invariant in
+    let s = c.window.ensures in
     let w = c.write_part.ensures in
-    let whole : w.count ≡ c.window-k.result = w.all c.if-not-write_part.false ∙ sym s.holds.part in
+    let e = c.as_bytes-part.ensures in
+    let whole : w.count ≡ length c.as_bytes-part.result.now = w.all c.if-not-write_part.false in
     record {
-      printing = printing_next _ _ _ _ i.printing _ _ s c.if-k-out.false (omega arith);
-      bytes = rw whole at (printing_bytes _ _ _ _ i.printing _ _ s _ w.within _ _ _ i.bytes w.bytes);
+      printing = printing_next _ _ _ _ i.printing _ s _ e _ c.is_full.ensures c.if-not-is_full.false;
+      bytes = rw whole at (printing_bytes _ _ _ _ i.printing _ s _ e _ w.within _ _ _ i.bytes w.bytes);
     }

@@ -4,12 +4,12 @@ use Rattle.text.proofs.Parts.{Printing}
 use Rattle.page_text.specs.PageText.{pages_text}
 use Rattle.pages.proofs.print.Given as goal
 
-abbrev pub invariant-loop-from : goal.invariant-loop-from
-invariant-loop-from g l =
+abbrev pub invariant-loop-part : goal.invariant-loop-part
+invariant-loop-part g l =
     record {
       printing : Printing (pages_text l.m) l.initial.out l.out l.from;
       bytes : Appends (g.W.Write.contents l.initial.output) (g.W.Write.contents l.output) (take l.from (pages_text l.m));
     }
 
-abbrev pub decreases-loop-from : goal.decreases-loop-from
-decreases-loop-from g l = length (pages_text l.m) - l.from
+abbrev pub decreases-loop-part : goal.decreases-loop-part
+decreases-loop-part g l = length (pages_text l.m) - l.from

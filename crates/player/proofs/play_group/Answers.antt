@@ -1,9 +1,9 @@
-use Rattle.player.proofs.Calls.{taken_few, group_keys, group_words, group_twice, group_start, group_plays}
+use Rattle.player.proofs.Calls.{taken_few, group_keys, group_words, group_twice, group_start, append_plays, buffer_plays}
 use borrow.Author.Rules.{rules}
 use Rattle.player.proofs.play_group.Goals as goal
 
-pub keys-keys-requires : goal.keys-keys-requires
-keys-keys-requires c = (search rules, search (group_keys, rules))
+pub keys-all_keys-requires : goal.keys-all_keys-requires
+keys-all_keys-requires c = (search rules, search (group_keys, rules))
 
 pub overflow_mul-n : goal.overflow_mul-n
 overflow_mul-n c = search (group_twice, rules)
@@ -11,23 +11,11 @@ overflow_mul-n c = search (group_twice, rules)
 pub overflow_add-at : goal.overflow_add-at
 overflow_add-at c = search (group_start, rules)
 
-pub words-words-requires : goal.words-words-requires
-words-words-requires c = (search rules, search (group_words, rules))
+pub words-all_words-requires : goal.words-all_words-requires
+words-all_words-requires c = (search rules, search (group_words, rules))
 
-pub slice_bounds-call-end : goal.slice_bounds-call-end
-slice_bounds-call-end c = search (taken_few, rules)
+pub returns-in-Append : goal.returns-in-Append
+returns-in-Append c = search (append_plays, rules)
 
-pub slice_bounds-call-end-2 : goal.slice_bounds-call-end-2
-slice_bounds-call-end-2 c = search (taken_few, rules)
-
-pub returns : goal.returns
-returns c =
-    group_plays _ _ _ _ _
-    c.requires.0 _ _
-    c.code-code.ensures
-    c.number-n.ensures
-    c.requires.1 _ _ _
-    c.entries-k.ensures
-    c.keys-keys.ensures.1
-    c.words-words.ensures.1 _ _ _ _
-    c.call.ensures
+pub returns-in_default : goal.returns-in_default
+returns-in_default c = search (buffer_plays, rules)

@@ -2,8 +2,8 @@
 use Rattle.records.proofs.Laws.{all_next, all_end}
 use Rattle.records.proofs.gather.Goals as goal
 
-pub loop-i-preserved : goal.loop-i-preserved
-loop-i-preserved c = all_next c.args.list.now c.loop-i.i _ c.loop-i.n c.note-n.result c.loop-i-test.true c.note-n.ensures c.loop-i.invariant
+pub loop-r-preserved : goal.loop-r-preserved
+loop-r-preserved c = all_next c.args.list.now c.loop-r.r-index _ c.loop-r.n c.note-n.result c.loop-r-test.true c.note-n.ensures c.loop-r.invariant
 
 pub returns : goal.returns
-returns c = all_end c.args.list.now c.loop-i.i c.loop-i.n c.loop-i-test.false c.loop-i.invariant
+returns c = all_end c.args.list.now c.loop-r.r-index c.loop-r.n c.loop-r-test.false c.loop-r.invariant

@@ -1,9 +1,5 @@
-use Rattle.compose.proofs.Laws.{word_found, word_missing}
-use borrow.Author.Rules.{rules}
+use Rattle.reply_lines.proofs.Laws.{word_or}
 use Rattle.reply_lines.proofs.word.Goals as goal
 
-pub returns-in_default : goal.returns-in_default
-returns-in_default c = search word_missing
-
 pub returns : goal.returns
-returns c = search word_found
+returns c = word_or _ _ _ c.word_at.ensures c.unwrap_or.ensures

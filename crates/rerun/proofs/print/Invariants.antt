@@ -4,12 +4,12 @@ use Rattle.text.proofs.Parts.{Printing}
 use Rattle.run_text.specs.RunText.{run_text}
 use Rattle.rerun.proofs.print.Given as goal
 
-abbrev pub invariant-loop-from : goal.invariant-loop-from
-invariant-loop-from g l =
+abbrev pub invariant-loop-part : goal.invariant-loop-part
+invariant-loop-part g l =
     record {
       printing : Printing (run_text l.t) l.initial.out l.out l.from;
       bytes : Appends (g.W.Write.contents l.initial.output) (g.W.Write.contents l.output) (take l.from (run_text l.t));
     }
 
-abbrev pub decreases-loop-from : goal.decreases-loop-from
-decreases-loop-from g l = length (run_text l.t) - l.from
+abbrev pub decreases-loop-part : goal.decreases-loop-part
+decreases-loop-part g l = length (run_text l.t) - l.from

@@ -1,5 +1,4 @@
 use Rattle.run_text.proofs.Laws.{moved_ends, moved_on}
-use borrow.Author.Rules.{rules}
 use Rattle.run_text.proofs.moved.Goals as goal
 
 pub returns-then-r : goal.returns-then-r

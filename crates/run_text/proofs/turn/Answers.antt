@@ -16,7 +16,6 @@ overflow_add-at c = search (turn_place, rules)
 
 pub returns : goal.returns
 returns c =
-    turn_is _ c.args.run _ _ c.requires _ c.data_size-bytes.ensures _ c.play-r.result _ _ _ c.reply-seen.result c.moved.result
-    c.play-r.ensures
-    c.reply-seen.ensures
+    turn_is _ c.args.run _ _ c.requires _ c.data_size-bytes.ensures _ c.play-r.result _ _ _ c.moved.result c.play-r.ensures
+    c.reply.ensures
     c.moved.ensures

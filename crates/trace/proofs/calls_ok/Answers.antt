@@ -1,7 +1,5 @@
-use Prim.Native.Nat.{◌-◌}
 use borrow.Author.Rules.{rules}
-use Rattle.lists.proofs.Laws.{Held, held_start}
-use Rattle.trace.specs.Trace.{call_count, call_ok}
+use Rattle.lists.proofs.Laws.{held_start}
 use Rattle.trace.proofs.Laws.{calls_stop, calls_next, calls_end}
 use Rattle.trace.proofs.calls_ok.Goals as goal
 

@@ -1,9 +1,8 @@
 use Rattle.trace.proofs.Laws.{size_here, size_is}
-use borrow.Author.Rules.{rules}
 use Rattle.trace.proofs.data_size.Goals as goal
 
-pub size_of-requires : goal.size_of-requires
-size_of-requires c = search (size_here, rules)
+pub size-requires : goal.size-requires
+size-requires c = size_here _ _ _ _ c.kind_at.ensures c.number.ensures c.requires
 
 pub returns : goal.returns
-returns c = search (size_is, rules)
+returns c = size_is _ _ _ _ c.kind_at.ensures c.number.ensures _ c.size.ensures

@@ -1,5 +1,4 @@
-use Rattle.trace.proofs.Laws.{numbers_end, NumbersRead, numbers_next, numbers_start}
-use Prim.Native.Nat.{◌-◌}
+use Rattle.trace.proofs.Laws.{numbers_end, numbers_next, numbers_start}
 use borrow.Author.Rules.{rules}
 use Rattle.trace.proofs.keys.Goals as goal
 

@@ -5,5 +5,5 @@ use Rattle.trace.proofs.pattern_size.Goals as goal
 pub returns-then-n-lt256 : goal.returns-then-n-lt256
 returns-then-n-lt256 c = search (pattern_page, rules)
 
-pub returns : goal.returns
-returns c = search (pattern_block, rules)
+pub returns-else-n-lt256 : goal.returns-else-n-lt256
+returns-else-n-lt256 c = search (pattern_block, rules)

@@ -1,12 +1,11 @@
 use Rattle.trace.proofs.Laws.{next_any, next_last, next_recovery}
-use borrow.Author.Rules.{rules}
 use Rattle.trace.proofs.recovers_next.Goals as goal
 
-pub returns-then-code-ne-CUT : goal.returns-then-code-ne-CUT
-returns-then-code-ne-CUT c = search (next_any, rules)
+pub returns-then-ne : goal.returns-then-ne
+returns-then-ne c = next_any _ _ _ c.kind_at.ensures _ c.ne.ensures c.if-ne.true
 
-pub returns-then-count-i : goal.returns-then-count-i
-returns-then-count-i c = search (next_last, rules)
+pub returns-then-i-count : goal.returns-then-i-count
+returns-then-i-count c = next_recovery _ _ _ c.kind_at.ensures _ c.ne.ensures c.if-ne.false _ c.count.ensures _ _ c.if-i-count.true c.kind_at-then-i-count.ensures c.eq.ensures
 
-pub returns : goal.returns
-returns c = search (next_recovery, rules)
+pub returns-else-i-count : goal.returns-else-i-count
+returns-else-i-count c = next_last _ _ _ c.kind_at.ensures _ c.ne.ensures c.if-ne.false _ c.count.ensures c.if-i-count.false

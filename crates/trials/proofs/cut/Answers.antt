@@ -2,8 +2,8 @@ use borrow.Author.Rules.{rules}
 use Rattle.trials.proofs.Laws.{pattern_most, length_pattern}
 use Rattle.trials.proofs.cut.Goals as goal
 
-pub slice_bounds-pattern-end : goal.slice_bounds-pattern-end
-slice_bounds-pattern-end c = search (pattern_most, rules)
+pub slice_bounds-all-end : goal.slice_bounds-all-end
+slice_bounds-all-end c = search (pattern_most, rules)
 
-pub slice_bounds-call-end-3 : goal.slice_bounds-call-end-3
-slice_bounds-call-end-3 c = search (length_pattern, rules)
+pub slice_bounds-pattern-end : goal.slice_bounds-pattern-end
+slice_bounds-pattern-end c = search (length_pattern, rules)

@@ -6,6 +6,3 @@ use Rattle.trials.proofs.finish.Given as goal
 
 abbrev pub invariant-loop-n : goal.invariant-loop-n
 invariant-loop-n l = (length l.m ≡ length l.initial.m) × (length l.b ≡ length l.initial.b) × (length l.m ≤ 65536) × (length l.b ≡ 256)
-
-abbrev pub decreases-loop-n : goal.decreases-loop-n
-decreases-loop-n l = l.most - l.n

@@ -6,6 +6,3 @@ use Rattle.trials.proofs.groups.Given as goal
 
 abbrev pub invariant-loop-i : goal.invariant-loop-i
 invariant-loop-i l = (length l.group ≡ 3) × (length l.all ≡ 145) × (1 ≤ l.i)
-
-abbrev pub decreases-loop-i : goal.decreases-loop-i
-decreases-loop-i l = 145 - l.i

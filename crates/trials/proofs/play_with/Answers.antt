@@ -8,9 +8,6 @@ use Rattle.trials.proofs.play_with.Goals as goal
 pub returns-then-m-gt-BYTES : goal.returns-then-m-gt-BYTES
 returns-then-m-gt-BYTES c = search (play_none, rules)
 
-pub returns-then-b-ne256 : goal.returns-then-b-ne256
-returns-then-b-ne256 c = search (play_none, rules)
-
 pub loop-i-init : goal.loop-i-init
 loop-i-init c = (search (play_starts, rules), search rules, search rules, search rules)
 

@@ -6,6 +6,3 @@ use Rattle.trials.proofs.words.Given as goal
 
 abbrev pub invariant-loop-i : goal.invariant-loop-i
 invariant-loop-i l = length l.all ≡ 97
-
-abbrev pub decreases-loop-i : goal.decreases-loop-i
-decreases-loop-i l = 97 - l.i

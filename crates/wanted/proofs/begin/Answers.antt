@@ -1,18 +1,19 @@
-use Rattle.wanted.proofs.Laws.{begin_state, begin_records, begin_index, state_valves}
-use Rattle.state.proofs.Laws.{told_of, state_few, state_rises}
-use borrow.Author.Rules.{rules}
+use Rattle.std.proofs.lemmas.Result.{err_from_is_err_and}
+use Rattle.wanted.proofs.Laws.{begin_state, begin_few, begin_rises, begin_valves, begin_records, begin_index}
 use Rattle.wanted.proofs.begin.Goals as goal
 
-pub returns-then-number-ne0 : goal.returns-then-number-ne0
-returns-then-number-ne0 c = search (begin_state, told_of, rules)
+pub returns-in_err-check : goal.returns-in_err-check
+returns-in_err-check c =
+    let p = err_from_is_err_and c.from_residual.result c.from_residual.ensures.1 in
+    rw (p.1, p.2) (search (begin_state, c.in_err-check.ensures))
 
-pub returns-then-other-ne0 : goal.returns-then-other-ne0
-returns-then-other-ne0 c = search (begin_records, told_of, rules)
+pub returns-in_err-check_records : goal.returns-in_err-check_records
+returns-in_err-check_records c =
+    let p = err_from_is_err_and c.from_residual-in_err-check_records.result c.from_residual-in_err-check_records.ensures.1 in
+    rw (p.1, p.2) (search (begin_records, c.in_ok-check.ensures, c.in_err-check_records.ensures))
 
 pub from_index-requires : goal.from_index-requires
-from_index-requires c =
-    let e = told_of _ c.args.s _ c.parts_refusal-number.ensures in
-    (state_few c.args.m.now c.args.s _ e c.if-number-ne0.false, state_rises c.args.m.now c.args.s _ e c.if-number-ne0.false, state_valves c.args.m.now c.args.s c.args.n _ e c.if-number-ne0.false)
+from_index-requires c = (search (begin_few, c.in_ok-check.ensures), search (begin_rises, c.in_ok-check.ensures), search (begin_valves, c.in_ok-check.ensures))
 
 pub returns : goal.returns
-returns c = search (begin_index, told_of, rules)
+returns c = search (begin_index, c.in_ok-check.ensures, c.in_ok-check_records.ensures, c.from_index.ensures)

@@ -1,9 +1,10 @@
-use Rattle.index.proofs.Pairs.{held_past, held_there}
+use Rattle.index.proofs.Pairs.{held_there}
 use borrow.Author.Rules.{rules}
+use Rattle.wanted_group.proofs.Comparison.{held_out}
 use Rattle.wanted_group.proofs.has_word.Goals as goal
 
-pub returns-then-n-at : goal.returns-then-n-at
-returns-then-n-at c = search (held_past, rules)
+pub returns-then-at-n : goal.returns-then-at-n
+returns-then-at-n c = search (held_there, rules)
 
-pub returns : goal.returns
-returns c = search (held_there, rules)
+pub returns-else-at-n : goal.returns-else-at-n
+returns-else-at-n c = search (held_out, rules)

@@ -1,8 +1,0 @@
-use Rattle.std.proofs.Common.{◌-◌, ◌≤◌}
-use Rattle.examples.proofs.start.Given as goal
-
-abbrev pub invariant-loop-i : goal.invariant-loop-i
-invariant-loop-i g l = l.i ≤ 9
-
-abbrev pub decreases-loop-i : goal.decreases-loop-i
-decreases-loop-i g l = 9 - l.i
