@@ -136,7 +136,11 @@ def main():
     for name, text in sources(args.at).items():
         for line, head, what in loops(text):
             places["3 loops that count by hand"].append((name, line, what, head))
+        before = ("", "")
         for kind, item, body, head, line in items(text):
+            if kind == "const" and before[0] == "const" and "// Kept:" in before[1]:
+                head += "// Kept: as the constant before it"
+            before = (kind, head)
             put = lambda point: places[point].append((name, line, f"{kind} {item}", head))
             if flags(kind, item, body):
                 put("1a flags and numbers beside values, own Option and Result")

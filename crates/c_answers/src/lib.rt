@@ -18,6 +18,7 @@ pub struct VjPart {
 pub const COUNTS: usize = 3 * flash::BLOCKS;
 
 // 0 and the survey, its rows of three counts one after another; or a refusal's number, and every count 0.
+// Kept: the C interface; `read::survey` answers a Result.
 #[repr(C)]
 #[derive(Clone, Copy)]
 pub struct VjSurvey {

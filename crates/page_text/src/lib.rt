@@ -16,6 +16,7 @@ use text::Text;
 pub const BYTES: usize = 1048576;
 
 // Each function puts its text behind a text in a lent list. What a kind is called.
+// Kept: two tables of words, each the definition of its name.
 fn kind_name(out: &mut Text<'_>, kind: u8)
     ensures { Puts out.old (kind_name kind) out.new }
 {
@@ -29,6 +30,7 @@ fn kind_name(out: &mut Text<'_>, kind: u8)
 }
 
 // What flags say of the group.
+// Kept: as `kind_name`.
 fn flags_name(out: &mut Text<'_>, flags: u8)
     ensures { Puts out.old (flags_name flags) out.new }
 {

@@ -14,6 +14,7 @@ use std::io::Write;
 use text::Text;
 
 // Bytes of the text of a medium on standard output, of which those before this place were written; whether they were written.
+// Kept: its twin in `rerun` promises the part of another text, of a run and not of a medium.
 fn write_part<W: Write>(
     output: &mut W,
     errors: &impl Eprint,
@@ -40,6 +41,7 @@ fn print<W: Write>(
     ensures gave { Gave (W.contents output.old) (W.contents output.new) (pages_text m.now) (is_some result) }
 {
     let mut from: usize = 0;
+    // Kept: the text ends where a part of it is not full, so that no count is known before.
     loop {
         page_text::window(m, from, out);
         let part = out.as_bytes();

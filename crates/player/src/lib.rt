@@ -123,6 +123,7 @@ fn append<'a>(m: &[u8], b: &[u8], last: Option<State>, keys: &'a [u16], words: &
 }
 
 // A commit.
+// Kept: `append`, `commit`, `collect` and `flush` are a line of work each, with promises of their own.
 fn commit(m: &[u8], b: &[u8], last: Option<State>) -> Reply
     ensures { Plays (world_by m.now last b.now) Recorded.commit result m.now b.now }
 {
@@ -143,6 +144,7 @@ fn collect(m: &[u8], b: &[u8], last: Option<State>, block: u64) -> Reply
 }
 
 // A flush.
+// Kept: as `commit`.
 fn flush(m: &[u8], b: &[u8], last: Option<State>) -> Reply
     ensures { Plays (world_by m.now last b.now) Recorded.flush result m.now b.now }
 {

@@ -13,6 +13,7 @@ pub struct Record {
 }
 
 // What a walk over records has noted.
+// Kept: `noted_all` is the promise and has the three; `least` and `count` go on where the valves do not rise.
 #[derive(Clone, Copy)]
 pub struct Notes {
     // Whether the valves rise strictly, each below 32768.

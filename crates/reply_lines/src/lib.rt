@@ -68,6 +68,7 @@ fn setting(m: &[u8], c: Cells, i: usize) -> PrintedLine
 }
 
 // Line k of a recovery with a log of this length, which left this state, where m is the medium.
+// Kept: the numbers are places of lines, and no kinds.
 fn recovery_line(m: &[u8], log: usize, last: Option<State>, k: usize) -> PrintedLine
     requires { (many_set last ≤ 192) × (k < 2 + many_set last) }
     ensures { GivesLineOf (summary_told m.now log last) k result }

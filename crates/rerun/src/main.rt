@@ -14,6 +14,7 @@ use std::io::Write;
 use text::Text;
 
 // Bytes of the text of a trace on standard output, of which those before this place were written; whether they were written.
+// Kept: its twin in `pages` promises the part of another text, of a medium and not of a run.
 fn write_part<W: Write>(
     output: &mut W,
     errors: &impl Eprint,
@@ -43,6 +44,7 @@ fn print<W: Write>(
     ensures gave { Gave (W.contents output.old) (W.contents output.new) (run_text t.now) (is_some result) }
 {
     let mut from: usize = 0;
+    // Kept: the text ends where a part of it is not full, so that no count is known before.
     loop {
         run_text::window(t, from, m, b, out);
         let part = out.as_bytes();

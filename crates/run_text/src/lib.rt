@@ -107,6 +107,7 @@ fn calls(t: &[u8], from: usize, m: &mut [u8], b: &mut [u8], out: &mut Text<'_>)
 {
     out.start(from);
     let mut run = first(t, m, b);
+    // Kept: a reply may end the run, and `Stands` speaks of the calls left.
     while run.left != 0 {
         if out.is_full() {
             return;

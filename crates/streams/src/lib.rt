@@ -54,6 +54,7 @@ pub fn read<R: Read>(input: &mut R, errors: &impl Eprint, buf: &mut [u8]) -> Opt
 {
     let mut done: usize = 0;
     let mut left = AGAIN;
+    // Kept: a read gives as many bytes as it likes, so that no count of turns is known before.
     while done < buf.len() {
         match input.read(&mut buf[done..]) {
             Ok(0) => return Some(done),
@@ -80,6 +81,7 @@ pub fn write<W: Write>(output: &mut W, errors: &impl Eprint, text: &[u8]) -> boo
 {
     let mut done: usize = 0;
     let mut left = AGAIN;
+    // Kept: a write takes as many bytes as it likes.
     while done < text.len() {
         match output.write(&text[done..]) {
             Ok(0) => {

@@ -243,6 +243,7 @@ pub fn entries(n: u64) -> usize
 }
 
 // The keys of n entries, from byte k on.
+// Kept: as `words`.
 pub fn keys(t: &[u8], k: usize, n: usize) -> [u16; 97]
     requires { (n ≤ 97) × (k + 2 * n ≤ length t.now) }
     ensures { (length result ≡ 97) × (take n result ≡ numbers_at 2 n k t.now) }

@@ -9,6 +9,7 @@ ghost use Rattle.trials.specs.Played.{Played};
 use player::{RecordedCall, Reply, Told};
 use state::State;
 
+// Kept: a trial is one list of numbers, the codes `FORMAT` to `FLUSH` among their arguments: an array of cases with arrays in them is no plainer.
 // Codes of calls. The last digit of a code is the call, as in a trace. Here formatting begins.
 pub const FORMAT: u64 = 1;
 
@@ -67,6 +68,7 @@ pub const BUFFER_VALVES: u64 = 48;
 pub const SET: u64 = 52;
 
 // How the last call of a list went: the number that refused it, or 0; the steps it tried; and the state, unless a cut lost it.
+// Kept: `Played` is the promise and speaks of the number.
 #[derive(Clone, Copy)]
 pub struct Trial {
     pub number: u8,
@@ -80,6 +82,7 @@ fn at(calls: &[u64], i: usize) -> u64 {
 }
 
 // How many numbers a call has after its code, of which n is the first.
+// Kept: codes of a list of numbers, some asked by ranges: a match would be guards.
 fn numbers(code: u64, n: u64) -> usize
     ensures { result ≤ 195 }
 {
@@ -203,6 +206,7 @@ fn rest(t: Trial) -> Trial {
 }
 
 // A call before any step; one without the journal leaves all as it was.
+// Kept: as `numbers`.
 fn begun(m: &mut [u8], b: &mut [u8], t: Trial, call: &[u64]) -> Trial
     requires { (length m.old ≤ 65536) × (length b.old ≡ buffer_bytes) }
 {
@@ -277,6 +281,7 @@ fn page(call: &[u64]) -> [u8; 256] {
 }
 
 // What a call does to the medium without the journal.
+// Kept: as `numbers`.
 fn damage(m: &mut [u8], call: &[u64]) {
     let code = at(call, 0);
     let i = at(call, 1) as usize;
@@ -318,6 +323,7 @@ pub fn play_with(m: &mut [u8], b: &mut [u8], calls: &[u64]) -> Trial
         return t;
     }
     let mut i: usize = 0;
+    // Kept: each call is as long as its first numbers say, so that no count is known before.
     while i < calls.len() {
         let e = end(calls, i);
         t = made(m, b, t, &calls[i..e]);

@@ -13,6 +13,7 @@ ghost use Rattle.wanted_group.specs.Compare.{not_compared, compared_with, unname
 use lists::Cells;
 
 // What wanted records, compared with the present settings one by one, have come to so far.
+// Kept: `SoFar` is the promise and has the flags; there is no heap, so the lists stand with a count.
 #[derive(Clone, Copy)]
 pub struct Compared {
     // For each place of the present settings 0 until a record has named the valve there. The place past them is for valves that are not set.
