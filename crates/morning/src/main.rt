@@ -6,7 +6,6 @@
 ghost use Rattle.std.specs.Prelude.{◌≡◌, length};
 
 use std::io;
-use text::Text;
 
 // Room for the longest medium that is listed, and one byte more.
 fn input_room() -> [u8; 65537]
@@ -27,8 +26,7 @@ fn main(rt: HostRuntime) {
     let Some(n) = streams::read(&mut rt.stdin(), &rt, &mut b) else {
         return;
     };
-    let mut room = text_room();
-    let mut out = Text::new(&mut room);
-    listing::medium(&b[..n], &mut out);
-    streams::write(&mut io::writer(&rt), &rt, out.as_bytes());
+    let mut out = text_room();
+    let k = listing::medium_into(&b[..n], &mut out);
+    streams::write(&mut io::writer(&rt), &rt, &out[..k]);
 }

@@ -11,7 +11,7 @@ use Rattle.lists.specs.declared.Cell.{Cell}
 use Rattle.lists.specs.Cells.{Entry, cell}
 use Rattle.lists.proofs.Laws.{length_table, get_table}
 use Rattle.text.specs.Filled.{Filled}
-use Rattle.text.specs.Text.{ascii, Puts}
+use Rattle.text.specs.Text.{ascii, PutsBehind}
 use Rattle.text.proofs.Laws.{puts_none, puts_then, puts_same}
 use Rattle.codec.specs.Codec.{le, part}
 use Rattle.page.specs.Rules.{lawful}
@@ -22,7 +22,7 @@ use Rattle.page_text.specs.PageText.{entry_line, entry_lines, clean_line}
 
 -- ---- four texts in turn
 
-pub puts_four : {t u v w z : Filled} {a b c d : List ℕ} → Puts t a u → Puts u b v → Puts v c w → Puts w d z → Puts t (a ++ b ++ c ++ d) z
+pub puts_four : {t u v w z : Filled} {a b c d : List ℕ} → PutsBehind t a u → PutsBehind u b v → PutsBehind v c w → PutsBehind w d z → PutsBehind t (a ++ b ++ c ++ d) z
 puts_four p q r s = puts_then (puts_then (puts_then p q) r) s
 
 -- ---- names
@@ -45,72 +45,72 @@ flags_unknown (suc (suc (suc zero))) a b c d = absurd (d refl)
 flags_unknown (suc (suc (suc (suc k)))) a b c d = refl
 
 module _ {t u : Filled} (k : ℕ) where
-  pub kind_nodes : k ≡ 1 → Puts t (ascii " (nodes)") u → Puts t (kind_name k) u
+  pub kind_nodes : k ≡ 1 → PutsBehind t (ascii " (nodes)") u → PutsBehind t (kind_name k) u
   unfolding kind_name
   kind_nodes e p = rw e p
 
-  pub kind_base : k ≡ 2 → Puts t (ascii " (base)") u → Puts t (kind_name k) u
+  pub kind_base : k ≡ 2 → PutsBehind t (ascii " (base)") u → PutsBehind t (kind_name k) u
   unfolding kind_name
   kind_base e p = rw e p
 
-  pub kind_moved : k ≡ 3 → Puts t (ascii " (moved nodes)") u → Puts t (kind_name k) u
+  pub kind_moved : k ≡ 3 → PutsBehind t (ascii " (moved nodes)") u → PutsBehind t (kind_name k) u
   unfolding kind_name
   kind_moved e p = rw e p
 
-  pub kind_small : k ≡ 4 → Puts t (ascii " (small groups)") u → Puts t (kind_name k) u
+  pub kind_small : k ≡ 4 → PutsBehind t (ascii " (small groups)") u → PutsBehind t (kind_name k) u
   unfolding kind_name
   kind_small e p = rw e p
 
-  pub kind_other : (k ≡ 1 → ⊥) → (k ≡ 2 → ⊥) → (k ≡ 3 → ⊥) → (k ≡ 4 → ⊥) → Puts t (ascii " (unknown)") u
-      → Puts t (kind_name k) u
+  pub kind_other : (k ≡ 1 → ⊥) → (k ≡ 2 → ⊥) → (k ≡ 3 → ⊥) → (k ≡ 4 → ⊥) → PutsBehind t (ascii " (unknown)") u
+      → PutsBehind t (kind_name k) u
   kind_other a b c d p = puts_same (kind_unknown k a b c d) p
 
-  pub flags_neither : k ≡ 0 → Puts t (ascii " (neither begins nor ends)") u → Puts t (flags_name k) u
+  pub flags_neither : k ≡ 0 → PutsBehind t (ascii " (neither begins nor ends)") u → PutsBehind t (flags_name k) u
   unfolding flags_name
   flags_neither e p = rw e p
 
-  pub flags_begin : k ≡ 1 → Puts t (ascii " (begins)") u → Puts t (flags_name k) u
+  pub flags_begin : k ≡ 1 → PutsBehind t (ascii " (begins)") u → PutsBehind t (flags_name k) u
   unfolding flags_name
   flags_begin e p = rw e p
 
-  pub flags_end : k ≡ 2 → Puts t (ascii " (ends)") u → Puts t (flags_name k) u
+  pub flags_end : k ≡ 2 → PutsBehind t (ascii " (ends)") u → PutsBehind t (flags_name k) u
   unfolding flags_name
   flags_end e p = rw e p
 
-  pub flags_both : k ≡ 3 → Puts t (ascii " (begins and ends)") u → Puts t (flags_name k) u
+  pub flags_both : k ≡ 3 → PutsBehind t (ascii " (begins and ends)") u → PutsBehind t (flags_name k) u
   unfolding flags_name
   flags_both e p = rw e p
 
-  pub flags_other : (k ≡ 0 → ⊥) → (k ≡ 1 → ⊥) → (k ≡ 2 → ⊥) → (k ≡ 3 → ⊥) → Puts t (ascii " (unknown)") u
-      → Puts t (flags_name k) u
+  pub flags_other : (k ≡ 0 → ⊥) → (k ≡ 1 → ⊥) → (k ≡ 2 → ⊥) → (k ≡ 3 → ⊥) → PutsBehind t (ascii " (unknown)") u
+      → PutsBehind t (flags_name k) u
   flags_other a b c d p = puts_same (flags_unknown k a b c d) p
 
 -- ---- what a page is
 
 pub fields_are : {t v : Filled} (s : List ℕ) (x u : ℕ) → x ≡ le (part 8 8 s) → u ≡ used s
-    → Puts t (kind_text (get_or s 2 0) ++ flags_text (get_or s 3 0) ++ field_text (ascii ", serial ") x ++ field_text (ascii ", entries ") u) v
-    → Puts t (fields_text s) v
+    → PutsBehind t (kind_text (get_or s 2 0) ++ flags_text (get_or s 3 0) ++ field_text (ascii ", serial ") x ++ field_text (ascii ", entries ") u) v
+    → PutsBehind t (fields_text s) v
 unfolding fields_text decode
 fields_are s x u c d p = rw (← c, ← d) p
 
 module _ {t u : Filled} (s : List ℕ) (b : Bool) where
-  pub rules_kept : b ≡ lawful (decode s) → b ≡ true → Puts t (ascii ", keeps the rules") u
-      → Puts t (rules_text (decode s)) u
+  pub rules_kept : b ≡ lawful (decode s) → b ≡ true → PutsBehind t (ascii ", keeps the rules") u
+      → PutsBehind t (rules_text (decode s)) u
   unfolding rules_text
   rules_kept e t p = rw (← e, t) p
 
-  pub rules_broken : b ≡ lawful (decode s) → b ≡ false → Puts t (ascii ", breaks the rules") u
-      → Puts t (rules_text (decode s)) u
+  pub rules_broken : b ≡ lawful (decode s) → b ≡ false → PutsBehind t (ascii ", breaks the rules") u
+      → PutsBehind t (rules_text (decode s)) u
   unfolding rules_text
   rules_broken e t p = rw (← e, t) p
 
-  pub class_whole : b ≡ whole_bytes s → b ≡ true → Puts t (ascii ": whole, " ++ fields_text s ++ rules_text (decode s)) u
-      → Puts t (class_text s) u
+  pub class_whole : b ≡ whole_bytes s → b ≡ true → PutsBehind t (ascii ": whole, " ++ fields_text s ++ rules_text (decode s)) u
+      → PutsBehind t (class_text s) u
   unfolding class_text
   class_whole e t p = rw (← e, t) p
 
-  pub class_spoilt : b ≡ whole_bytes s → b ≡ false → Puts t (ascii ": spoilt, reads as " ++ fields_text s) u
-      → Puts t (class_text s) u
+  pub class_spoilt : b ≡ whole_bytes s → b ≡ false → PutsBehind t (ascii ": spoilt, reads as " ++ fields_text s) u
+      → PutsBehind t (class_text s) u
   unfolding class_text
   class_spoilt e t p = rw (← e, t) p
 
@@ -131,32 +131,32 @@ abbrev pub Entering : List ℕ → Filled → Filled → ℕ → Type 0
 Entering s t u i = Telling t (entry_lines 0 (decode s).entries) u (entry_lines i (drop i (decode s).entries))
 
 module _ (s : List ℕ) (t u : Filled) (i : ℕ) (l : Entering s t u i) (many count : ℕ) (j : many ≡ used s) (k : count ≡ min many 24) where
-  pub entering_next : i < count → (e : Cell) → e ≡ entry_at s i → (v : Filled) → Puts u (entry_line i e) v → Entering s t v (i + 1)
+  pub entering_next : i < count → (e : Cell) → e ≡ entry_at s i → (v : Filled) → PutsBehind u (entry_line i e) v → Entering s t v (i + 1)
   entering_next h e f v p =
       let z : i + 1 ≡ suc i = omega arith in
       let rest = drop (suc i) (decode s).entries in
       let o : entry_lines i (entry_at s i ∷ rest) ≡ entry_line i (entry_at s i) ++ entry_lines (suc i) rest = unfold entry_lines in refl in
-      let q : Puts u (entry_line i (entry_at s i)) v = puts_same (ap (entry_line i) f) p in
+      let q : PutsBehind u (entry_line i (entry_at s i)) v = puts_same (ap (entry_line i) f) p in
       rw z (telling_next l (ap (entry_lines i) (entries_from s i (omega arith)) ∙ o) q)
 
-  pub entering_end : count ≤ i → Puts t (entry_lines 0 (decode s).entries) u
+  pub entering_end : count ≤ i → PutsBehind t (entry_lines 0 (decode s).entries) u
   entering_end h =
       let n : length (decode s).entries ≤ i = omega (arith, entries_many s) in
       telling_end l (ap (entry_lines i) (drop_of_length-le (decode s).entries n) ∙ (unfold entry_lines in refl))
 
 -- ---- clean pages
 
-pub clean_none : (t : Filled) (a e : ℕ) → e ≤ a → Puts t (clean_line a e) t
+pub clean_none : (t : Filled) (a e : ℕ) → e ≤ a → PutsBehind t (clean_line a e) t
 unfolding clean_line
 clean_none t a e h = rw (le-ltb a e h) puts_none
 
 module _ {t u : Filled} (a e : ℕ) (h : a < e) where
-  pub clean_one : a + 1 ≡ e → Puts t (field_text (ascii "page ") a ++ ascii ": clean\n") u → Puts t (clean_line a e) u
+  pub clean_one : a + 1 ≡ e → PutsBehind t (field_text (ascii "page ") a ++ ascii ": clean\n") u → PutsBehind t (clean_line a e) u
   unfolding clean_line
   clean_one f p = let z : suc a ≡ e = omega arith in rw (lt-ltb a e h, eq-eqb (suc a) e z) p
 
   pub clean_more : (a + 1 ≡ e → ⊥)
-      → Puts t (field_text (ascii "pages ") a ++ field_text (ascii " to ") (e - 1) ++ ascii ": clean\n") u
-      → Puts t (clean_line a e) u
+      → PutsBehind t (field_text (ascii "pages ") a ++ field_text (ascii " to ") (e - 1) ++ ascii ": clean\n") u
+      → PutsBehind t (clean_line a e) u
   unfolding clean_line
   clean_more f p = let z : a + 1 ≡ suc a = omega arith in rw (lt-ltb a e h, ne_eqb (suc a) e (λ q. f (z ∙ q))) p

@@ -10,8 +10,8 @@ use borrow.Author.Tests.{lt-ltb, le-ltb}
 use Rattle.lists.specs.Needs.{Answer, refused, gives, and_then}
 use Rattle.lists.proofs.Laws.{same_refusal, given_refused, answered_refused, answered_gives}
 use Rattle.text.specs.Filled.{Filled, starting}
-use Rattle.text.specs.Text.{Puts}
-use Rattle.text.specs.Parts.{most_printed, Sees}
+use Rattle.text.specs.Text.{PutsBehind}
+use Rattle.text.specs.Parts.{most_printed, SeesIn}
 use Rattle.text.proofs.Laws.{puts_none, puts_then, puts_same}
 use Rattle.text.proofs.Parts.{sees_put}
 use Rattle.page.specs.Layout.{clean_bytes}
@@ -60,18 +60,18 @@ module _ (m : List ℕ) where
           let x : clean_bytes (page_at m p) ≡ true = ap clean_bytes (sym e) ∙ sym f ∙ q in
           rw z (rw (y, x) at l)
 
-      pub listed_page : b ≡ false → (v : Filled) → Puts u (clean_line a p) v → (w : Filled) → Puts v (page_text p s) w
+      pub listed_page : b ≡ false → (v : Filled) → PutsBehind u (clean_line a p) v → (w : Filled) → PutsBehind v (page_text p s) w
           → Listed m t w (p + 1) (p + 1)
       unfolding lines_from
       listed_page q v x w y =
           let z : p + 1 ≡ suc p = omega arith in
           let k : length m / 256 - p ≡ suc left = omega arith in
           let o : clean_bytes (page_at m p) ≡ false = ap clean_bytes (sym e) ∙ sym f ∙ q in
-          let i : Puts v (page_text p (page_at m p)) w = rw e at y in
+          let i : PutsBehind v (page_text p (page_at m p)) w = rw e at y in
           rw z (telling_next (rw (k, o) at l) refl (puts_then x i))
 
-    pub listed_end : length m / 256 ≤ p → p ≤ length m / 256 → (v : Filled) → Puts u (clean_line a (length m / 256)) v
-        → Puts t (lines_from m (length m / 256) 0 0) v
+    pub listed_end : length m / 256 ≤ p → p ≤ length m / 256 → (v : Filled) → PutsBehind u (clean_line a (length m / 256)) v
+        → PutsBehind t (lines_from m (length m / 256) 0 0) v
     unfolding lines_from
     listed_end h g v x =
         let y : p ≡ length m / 256 = omega arith in
@@ -82,7 +82,7 @@ module _ (m : List ℕ) where
 -- ---- recovery's refusal
 
 module _ (m : List ℕ) (r : Recovered) (s : Recovers m r) where
-  pub end_none : (t : Filled) → r.number ≡ 0 → Puts t (end_text (recover (length m) (views m))) t
+  pub end_none : (t : Filled) → r.number ≡ 0 → PutsBehind t (end_text (recover (length m) (views m))) t
   unfolding and_then end_text
   end_none t z = rw (go (recover (length m) (views m)) (sym (answered_gives r.number (meaning r.state) z) ∙ s)) puts_none
     where
@@ -90,8 +90,8 @@ module _ (m : List ℕ) (r : Recovered) (s : Recovers m r) where
       go (refused k) e = given_refused (meaning r.state) k e
       go (gives x) e = refl
 
-  pub end_refused : (t u : Filled) → (r.number ≡ 0 → ⊥) → Puts t (refusal_line r.number) u
-      → Puts t (end_text (recover (length m) (views m))) u
+  pub end_refused : (t u : Filled) → (r.number ≡ 0 → ⊥) → PutsBehind t (refusal_line r.number) u
+      → PutsBehind t (end_text (recover (length m) (views m))) u
   unfolding and_then end_text
   end_refused t u n p = rw (go (recover (length m) (views m)) (sym (answered_refused r.number (meaning r.state) n) ∙ s)) p
     where
@@ -101,19 +101,19 @@ module _ (m : List ℕ) (r : Recovered) (s : Recovers m r) where
 
 -- ---- the whole
 
-module _ (m : List ℕ) (from : ℕ) (old t : Filled) (o : t ≡ starting old.room from) where
-  seen : {u : Filled} {text : List ℕ} → text ≡ pages_text m → Puts t text u → Sees (pages_text m) from old u
+module _ (m : List ℕ) (from : ℕ) (old t : Filled) (o : t ≡ starting old.list old.room from) where
+  seen : {u : Filled} {text : List ℕ} → text ≡ pages_text m → PutsBehind t text u → SeesIn (pages_text m) from old u
   seen {u} {text} e p =
       let f : length (pages_text m) ≤ most_printed = few_text m in
-      sees_put refl f (puts_same e (rw o at p))
+      sees_put refl refl f (puts_same e (rw o at p))
 
-  pub whole_long : 1048576 < length m → (u : Filled) → Puts t (refusal_line 1) u → Sees (pages_text m) from old u
+  pub whole_long : 1048576 < length m → (u : Filled) → PutsBehind t (refusal_line 1) u → SeesIn (pages_text m) from old u
   whole_long h u p =
       let e : refusal_line 1 ≡ pages_text m = unfold pages_text in rw (lt-ltb 1048576 (length m) h) in
       seen e p
 
-  pub whole_all : length m ≤ 1048576 → (u : Filled) → Puts t (lines_from m (length m / 256) 0 0) u → (v : Filled) → Puts u (end_of m) v
-      → Sees (pages_text m) from old v
+  pub whole_all : length m ≤ 1048576 → (u : Filled) → PutsBehind t (lines_from m (length m / 256) 0 0) u → (v : Filled) → PutsBehind u (end_of m) v
+      → SeesIn (pages_text m) from old v
   whole_all h u p v q =
       let e : lines_from m (length m / 256) 0 0 ++ end_of m ≡ pages_text m = unfold pages_text in rw (le-ltb 1048576 (length m) h) in
       seen e (puts_then p q)

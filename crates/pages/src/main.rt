@@ -6,6 +6,7 @@
 
 ghost use Rattle.std.specs.Prelude.{◌≡◌, ◌<◌, is_some, length};
 ghost use Rattle.streams.specs.Streams.{Gave};
+ghost use Rattle.text.specs.Filled.{filled};
 ghost use Rattle.text.specs.Parts.{PartAt, PrintsAll};
 ghost use Rattle.page_text.specs.PageText.{pages_text};
 
@@ -36,7 +37,7 @@ fn print<W: Write>(
     m: &[u8],
     out: &mut Text<'_>,
 ) -> Option<usize>
-    requires { 0 < out.old.room }
+    requires { 0 < (filled out.old).room }
     ensures all { PrintsAll (pages_text m.now) result }
     ensures gave { Gave (W.contents output.old) (W.contents output.new) (pages_text m.now) (is_some result) }
 {

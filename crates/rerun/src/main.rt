@@ -5,6 +5,7 @@
 
 ghost use Rattle.std.specs.Prelude.{◌≡◌, ◌<◌, is_some, length};
 ghost use Rattle.streams.specs.Streams.{Gave};
+ghost use Rattle.text.specs.Filled.{filled};
 ghost use Rattle.text.specs.Parts.{PartAt, PrintsAll};
 ghost use Rattle.page.specs.Buffer.{buffer_bytes};
 ghost use Rattle.run_text.specs.RunText.{run_text};
@@ -39,7 +40,7 @@ fn print<W: Write>(
     b: &mut [u8],
     out: &mut Text<'_>,
 ) -> Option<usize>
-    requires { (length m.old ≡ 65536) × (length b.old ≡ buffer_bytes) × (0 < out.old.room) }
+    requires { (length m.old ≡ 65536) × (length b.old ≡ buffer_bytes) × (0 < (filled out.old).room) }
     ensures all { PrintsAll (run_text t.now) result }
     ensures gave { Gave (W.contents output.old) (W.contents output.new) (run_text t.now) (is_some result) }
 {

@@ -14,9 +14,9 @@ use Rattle.lists.specs.Cells.{Setting}
 use Rattle.lists.proofs.Laws.{length_table, get_table}
 use Rattle.std.specs.Prelude.{◌==◌}
 use Rattle.text.specs.Filled.{Filled, starting}
-use Rattle.text.specs.Text.{Puts}
+use Rattle.text.specs.Text.{PutsBehind}
 use Rattle.text.specs.Window.{window}
-use Rattle.text.specs.Parts.{most_printed, Sees}
+use Rattle.text.specs.Parts.{most_printed, SeesIn}
 use Rattle.text.proofs.Laws.{puts_none, puts_then}
 use Rattle.text.proofs.Seen.{puts_window, puts_full, length_window}
 use Rattle.text.proofs.Parts.{sees_put}
@@ -45,19 +45,19 @@ use Rattle.run_text.specs.Running.{most_of_call, left_in, Stands, Standing, Star
 -- ---- one line
 
 module _ {t u : Filled} (l : PrintedLine) where
-  pub line_refusal : (n : ℕ) → l ≡ printed.Refusal n → Puts t (refusal_line n) u → Puts t (line_text (line_of l)) u
+  pub line_refusal : (n : ℕ) → l ≡ printed.Refusal n → PutsBehind t (refusal_line n) u → PutsBehind t (line_text (line_of l)) u
   unfolding line_text
   line_refusal n e p = rw e p
 
-  pub line_log : (n : ℕ) → l ≡ printed.LogLength n → Puts t (log_line n) u → Puts t (line_text (line_of l)) u
+  pub line_log : (n : ℕ) → l ≡ printed.LogLength n → PutsBehind t (log_line n) u → PutsBehind t (line_text (line_of l)) u
   unfolding line_text
   line_log n e p = rw e p
 
-  pub line_set : (n : ℕ) → l ≡ printed.ValvesSet n → Puts t (set_line n) u → Puts t (line_text (line_of l)) u
+  pub line_set : (n : ℕ) → l ≡ printed.ValvesSet n → PutsBehind t (set_line n) u → PutsBehind t (line_text (line_of l)) u
   unfolding line_text
   line_set n e p = rw e p
 
-  pub line_setting : (k w x : ℕ) → l ≡ printed.Setting k w → x ≡ k → Puts t (setting_line x w) u → Puts t (line_text (line_of l)) u
+  pub line_setting : (k w x : ℕ) → l ≡ printed.Setting k w → x ≡ k → PutsBehind t (setting_line x w) u → PutsBehind t (line_text (line_of l)) u
   unfolding line_text
   line_setting k w x e q p = rw e (rw q at p)
 
@@ -95,14 +95,14 @@ few_reply m r f = few_told r.told (settings_in m r.last) (λ log e. let a = many
 
 -- k lines were put behind what was there
 abbrev pub Replying : List ℕ → Reply → Filled → Filled → ℕ → Type 0
-Replying m r t u k = Puts t (lines_text (take k (lines_by m r))) u
+Replying m r t u k = PutsBehind t (lines_text (take k (lines_by m r))) u
 
 pub replying_start : (m : List ℕ) (r : Reply) (t : Filled) → Replying m r t t 0
 unfolding lines_text
 replying_start m r t = puts_none
 
 module _ (m : List ℕ) (r : Reply) (n : ℕ) (c : CountsLines n r) (t u : Filled) (k : ℕ) (s : Replying m r t u k) where
-  pub replying_next : k < n → (l : PrintedLine) → GivesLine m r k l → (v : Filled) → Puts u (line_text (line_of l)) v → Replying m r t v (k + 1)
+  pub replying_next : k < n → (l : PrintedLine) → GivesLine m r k l → (v : Filled) → PutsBehind u (line_text (line_of l)) v → Replying m r t v (k + 1)
   replying_next h l g v p =
       let z : k + 1 ≡ suc k = add-one k in
       let e : take (k + 1) (lines_by m r) ≡ take k (lines_by m r) ++ (line_of l ∷ []) =
@@ -115,7 +115,7 @@ module _ (m : List ℕ) (r : Reply) (n : ℕ) (c : CountsLines n r) (t u : Fille
       ∙ ap (λ (x : List ℕ). lines_text (take k (lines_by m r)) ++ x) (lines_one (line_of l)) in
       rw f (puts_then s p)
 
-  pub replying_end : n ≤ k → Puts t (lines_text (lines_by m r)) u
+  pub replying_end : n ≤ k → PutsBehind t (lines_text (lines_by m r)) u
   replying_end h =
       let z : length (lines_by m r) ≤ k = omega (arith, c.is m) in
       rw (take_all k (lines_by m r) z) at s
@@ -169,7 +169,7 @@ module _ (t : List ℕ) (x : Run) (m b : List ℕ) (y : Ready t x m b) where
     turn_place = let l = formed_lists t turn_stands.formed in omega (arith, l.long, turn_stands.start, turn_has.bytes)
 
     pub turn_is : (out : Filled) (r : Reply) (m' b' : List ℕ) (out' : Filled) (x' : Run) → PlaysAt t x.call m x.last b r m' b'
-        → Puts out (lines_text (lines_by m' r)) out'
+        → PutsBehind out (lines_text (lines_by m' r)) out'
         → x' ≡ record { left = cond r.ends 0 (x.left - 1); call = x.call + 1; at = x.at + n; last = r.last }
         → Turns t x m b out x' m' b' out'
     turn_is out r m' b' out' x' p h q =
@@ -246,9 +246,9 @@ pub record Running (t : List ℕ) (from : ℕ) (m₀ b₀ : List ℕ) (old : Fil
   pub told : List ℕ
   pub short : length told ≤ most_of_call * x.call
   pub so : run_text t ≡ told ++ left_in t x.call x.left x.last m b
-  pub puts : Puts (starting old.room from) told u
+  pub puts : PutsBehind (starting old.list old.room from) told u
 
-pub running_start : (t : List ℕ) (from : ℕ) (old u : Filled) (x : Run) (m b : List ℕ) → u ≡ starting old.room from → StartsRun t x m b
+pub running_start : (t : List ℕ) (from : ℕ) (old u : Filled) (x : Run) (m b : List ℕ) → u ≡ starting old.list old.room from → StartsRun t x m b
     → Running t from m b old x m b u
 running_start t from old u x m b e s =
     record {
@@ -307,17 +307,17 @@ module _ (t : List ℕ) (from : ℕ) (m₀ b₀ : List ℕ) (old : Filled) (x : 
         let s = R.short in
         omega (arith, l.long, l.room, ap length (puts_window R.puts), length_window from old.room R.told)
 
-    seen : u.text ≡ window from old.room (run_text t) → Sees (run_text t) from old u
-    seen h = record { room = R.puts.room; is = h ∙ ap (λ (k : ℕ). window from k (run_text t)) (sym R.puts.room); low = told_low }
+    seen : u.text ≡ window from old.room (run_text t) → SeesIn (run_text t) from old u
+    seen h = record { list = R.puts.list; room = R.puts.room; is = h ∙ ap (λ (k : ℕ). window from k (run_text t)) (sym R.puts.room); low = told_low }
 
-    pub running_end : x.left ≡ 0 → Sees (run_text t) from old u
+    pub running_end : x.left ≡ 0 → SeesIn (run_text t) from old u
     unfolding left_in lines_from lines_text
     running_end e =
         let z : left_in t x.call x.left x.last m b ≡ [] = rw e in
         let y : run_text t ≡ R.told = R.so ∙ ap (λ (l : List ℕ). R.told ++ l) z ∙ append-nil R.told in
         seen (puts_window R.puts ∙ ap (window from old.room) (sym y))
 
-    pub running_full : (full : Bool) → full ≡ (length u.text == u.room) → full ≡ true → Sees (run_text t) from old u
+    pub running_full : (full : Bool) → full ≡ (length u.text == u.room) → full ≡ true → SeesIn (run_text t) from old u
     running_full full e f =
         let i = eqb-true (length u.text) u.room (sym e ∙ f) in
         let k : old.room ≤ length u.text = omega (arith, R.puts.room) in
@@ -344,13 +344,13 @@ module _ (t : List ℕ) (w : well_formed t ≡ true) where
 
 -- ---- the whole
 
-pub broken_is : (n from : ℕ) (old t u : Filled) → n ≡ 26 → t ≡ starting old.room from → Puts t (refusal_line n) u → Sees (refusal_line 26) from old u
+pub broken_is : (n from : ℕ) (old t u : Filled) → n ≡ 26 → t ≡ starting old.list old.room from → PutsBehind t (refusal_line n) u → SeesIn (refusal_line 26) from old u
 broken_is n from old t u e o p =
     let f : length (refusal_line 26) ≤ most_printed = omega (arith, few_refusal 26) in
-    sees_put refl f (rw (e, o) at p)
+    sees_put refl refl f (rw (e, o) at p)
 
 module _ (t : List ℕ) (r : Bool) (e : r ≡ well_formed t) where
-  pub window_broken : not r ≡ true → (from : ℕ) (old u : Filled) → Sees (refusal_line 26) from old u → Sees (run_text t) from old u
+  pub window_broken : not r ≡ true → (from : ℕ) (old u : Filled) → SeesIn (refusal_line 26) from old u → SeesIn (run_text t) from old u
   unfolding run_text lines_of lines_text line_text
   window_broken h from old u s =
       let z : well_formed t ≡ false = sym e ∙ not-true r h in

@@ -5,7 +5,7 @@ use Rattle.trace.specs.Trace.{call_count, well_formed, recorded, data_start}
 use Rattle.player.specs.Run.{lines_from}
 use Rattle.player.specs.Played.{LastState, world_by}
 use Rattle.text.specs.Filled.{Filled}
-use Rattle.text.specs.Text.{Puts}
+use Rattle.text.specs.Text.{PutsBehind}
 use Rattle.run_text.specs.declared.Run.{Run}
 use Rattle.run_text.specs.RunText.{lines_text, run_text}
 
@@ -51,4 +51,4 @@ pub record Turns (t : List ℕ) (r : Run) (m b : List ℕ) (out : Filled) (r' : 
   pub piece : List ℕ
   pub short : length piece ≤ most_of_call
   pub so : left_in t r.call r.left r.last m b ≡ piece ++ left_in t r'.call r'.left r'.last m' b'
-  pub puts : Puts out piece out'
+  pub puts : PutsBehind out piece out'

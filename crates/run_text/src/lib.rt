@@ -2,6 +2,7 @@
 #![tactic(auto)]
 
 ghost use Rattle.std.specs.Prelude.{◌≡◌, true, cond, ◌+◌, ◌*◌, ◌-◌, ◌≤◌, length};
+ghost use Rattle.text.specs.Filled.{filled};
 ghost use Rattle.text.specs.Text.{Puts};
 ghost use Rattle.text.specs.Parts.{Sees};
 ghost use Rattle.page.specs.Buffer.{buffer_bytes};
@@ -73,7 +74,7 @@ fn moved(r: Reply, left: usize, call: usize, at: usize) -> Run
 // One call played, and its lines.
 fn turn(t: &[u8], run: Run, m: &mut [u8], b: &mut [u8], out: &mut Text<'_>) -> Run
     requires { Ready t.now run m.old b.old }
-    ensures { Turns t.now run m.old b.old out.old result m.new b.new out.new }
+    ensures { Turns t.now run m.old b.old (filled out.old) result m.new b.new (filled out.new) }
 {
     let i = run.call;
     let at = run.at;

@@ -11,8 +11,9 @@ use borrow.Author.Tests.{lt-ltb, le-ltb}
 use borrow.Rule.Slice.PartMut.{put_mid, same_len_mid}
 use Rattle.std.proofs.lemmas.Slice.{take-put_mid}
 use Rattle.io.specs.Digits.{hex_digit_ascii, last_digits, IsDigitCount}
+use Rattle.std.specs.Borrow.{GName}
 use Rattle.text.specs.Filled.{Filled, starting}
-use Rattle.text.specs.Text.{decimal_within, decimal, Puts}
+use Rattle.text.specs.Text.{decimal_within, decimal, PutsBehind, Holds}
 
 -- ---- one text behind the other
 
@@ -50,15 +51,15 @@ drop_append k x y = go (dec_le k (length x))
         ∙ ap (λ (t : List ℕ). t ++ drop (k - length x) y) (sym (drop_of_length-le x l))
 
 module _ {t : Filled} where
-  pub puts_none : Puts t [] t
+  pub puts_none : PutsBehind t [] t
   puts_none =
       let k = t.room - length t.text in
       let z : t.skip - 0 ≡ t.skip = omega arith in
       let e : take k (drop t.skip []) ≡ [] = ap (take k) (drop-nil t.skip) ∙ take_all k [] (omega arith) in
-      record { room = refl; skip = sym z; so = sym (ap (λ (l : List ℕ). t.text ++ l) e ∙ append-nil t.text) }
+      record { list = refl; room = refl; skip = sym z; so = sym (ap (λ (l : List ℕ). t.text ++ l) e ∙ append-nil t.text) }
 
   module _ {x : List ℕ} {u : Filled} where
-    pub puts_then : {y : List ℕ} {v : Filled} → Puts t x u → Puts u y v → Puts t (x ++ y) v
+    pub puts_then : {y : List ℕ} {v : Filled} → PutsBehind t x u → PutsBehind u y v → PutsBehind t (x ++ y) v
     puts_then {y} {v} p q =
         let a = p.skip in
         let b = q.skip in
@@ -67,6 +68,7 @@ module _ {t : Filled} where
         let e : v.text ≡ u.text ++ take (n - length u.text) (drop u.skip y) =
         q.so ∙ ap (λ (j : ℕ). u.text ++ take (j - length u.text) (drop u.skip y)) p.room in
         record {
+          list = q.list ∙ p.list;
           room = q.room ∙ p.room;
           skip = omega arith;
           so =
@@ -75,7 +77,7 @@ module _ {t : Filled} where
               ∙ ap (λ (s : List ℕ). t.text ++ take (n - length t.text) s) (sym (drop_append t.skip x y));
         }
 
-    pub puts_same : {y : List ℕ} → x ≡ y → Puts t x u → Puts t y u
+    pub puts_same : {y : List ℕ} → x ≡ y → PutsBehind t x u → PutsBehind t y u
     puts_same e p = rw (← e) p
 
 -- ---- bytes put behind the text: k of s from place n on
@@ -94,15 +96,15 @@ shown_is s skip b e = go (dec_le skip (length s))
         let z : length s ≤ skip = omega arith in
         all ∙ drop_of_length-le s y ∙ sym (drop_of_length-le s z)
 
-pub puts_pushed : {t : Filled} (bytes s x : List ℕ) {ys : List ℕ} (n skip b j : ℕ) {k : ℕ}
-    → record { room = length bytes; text = take n bytes; skip = skip } ≡ t → n ≤ length bytes → b ≡ min skip (length s)
-    → x ≡ take (length s - b) (drop b s) → k ≡ min (length x) (length bytes - n) → j ≡ k → ys ≡ take k x
-    → Puts t s (record { room = length (put_mid n j bytes ys); text = take (n + k) (put_mid n j bytes ys); skip = skip - b })
-puts_pushed bytes s x {ys} n skip b j {k} v h l i e f g =
+pub puts_pushed : {list : GName} (bytes s x : List ℕ) {ys : List ℕ} (n skip b j : ℕ) {k : ℕ} → n ≤ length bytes
+    → b ≡ min skip (length s) → x ≡ take (length s - b) (drop b s) → k ≡ min (length x) (length bytes - n) → j ≡ k → ys ≡ take k x
+    → PutsBehind (record { list = list; room = length bytes; text = take n bytes; skip = skip }) s
+    (record { list = list; room = length (put_mid n j bytes ys); text = take (n + k) (put_mid n j bytes ys); skip = skip - b })
+puts_pushed bytes s x {ys} n skip b j {k} h l i e f g =
     let y : length ys ≡ k = omega (arith, ap length g, length-take k x) in
     let a : length (take n bytes) ≡ n = length-take-le n bytes h in
-    rw (← v)
-    (record {
+    record {
+      list = refl;
       room = same_len_mid n j bytes ys (omega (arith, length-take j (drop n bytes), length-drop n bytes));
       skip = omega arith;
       so =
@@ -112,7 +114,7 @@ puts_pushed bytes s x {ys} n skip b j {k} v h l i e f g =
           ∙ cut (dec_le (length x) (length bytes - n))
           ∙ ap (λ (u : List ℕ). take (length bytes - n) u) (i ∙ shown_is s skip b l)
           ∙ ap (λ (i : ℕ). take (length bytes - i) (drop skip s)) (sym a));
-    })
+    }
   where
     cut : Dec (length x ≤ length bytes - n) → take k x ≡ take (length bytes - n) x
     cut (yes p) = let q : length x ≤ k = omega arith in take_all k x q ∙ sym (take_all (length bytes - n) x p)
@@ -169,5 +171,20 @@ number_is x (suc k) d l f g =
 
 -- ---- where there is room for all of a text
 
-pub puts_all : {room : ℕ} {x : List ℕ} {u : Filled} → length x ≤ room → Puts (starting room 0) x u → u.text ≡ x
-puts_all {room} {x} l p = p.so ∙ take_all (room - 0) x (omega arith)
+pub puts_all : {list : GName} {room : ℕ} {x : List ℕ} {u : Filled} → length x ≤ room → PutsBehind (starting list room 0) x u → u.text ≡ x
+puts_all {room = room} {x = x} l p = p.so ∙ take_all (room - 0) x (omega arith)
+
+-- ---- a list that a text was in
+
+pub started : {t : Filled} {list : GName} {room from : ℕ} → t ≡ starting list room from → t ≡ starting t.list t.room from
+started {t} {list} {room} {from} e =
+    e
+    ∙ sym
+    (ap₂ (λ (l : GName) (r : ℕ). starting l r from) (ap (λ (u : Filled). u.list) e) (ap (λ (u : Filled). u.room) e))
+
+-- after the text's life the list holds the text
+pub holds_text : {out x : List ℕ} {r : ℕ} (bytes : List ℕ) (n : ℕ) → out ≡ bytes → n ≤ length bytes → r ≡ length (take n bytes)
+    → take n bytes ≡ x → Holds out r x
+holds_text {out} {x} {r} bytes n o h e f =
+    let a : r ≡ n = e ∙ length-take-le n bytes h in
+    rw (a, o) (record { within = h; part = sym (length-take-le n bytes h); is = f })

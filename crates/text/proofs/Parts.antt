@@ -14,10 +14,11 @@ use Rattle.std.specs.Prelude.{◌==◌, Some, None}
 use Rattle.std.proofs.KnownBytes.{Appends-trans}
 use Rattle.std.specs.Io.KnownBytes.{Appends}
 use Rattle.std.specs.declared.option.Option.{Option}
+use Rattle.std.specs.Borrow.{GName}
 use Rattle.text.specs.Filled.{Filled, starting}
-use Rattle.text.specs.Text.{Puts}
+use Rattle.text.specs.Text.{PutsBehind}
 use Rattle.text.specs.Window.{window}
-use Rattle.text.specs.Parts.{most_printed, Sees, PartAt, PrintsAll}
+use Rattle.text.specs.Parts.{most_printed, SeesIn, PartAt, PrintsAll}
 use Rattle.text.proofs.Seen.{length_window, puts_window}
 
 -- a window is as long as it is
@@ -40,14 +41,14 @@ unfolding window
 of_window from size n text h = take-take n size (drop from text) h
 
 -- a window on a whole text that is not too long
-pub sees_put : {room from : ℕ} {text : List ℕ} {old t : Filled} → old.room ≡ room → length text ≤ most_printed
-    → Puts (starting room from) text t → Sees text from old t
-sees_put {room} {from} {text} {old} {t} e few p =
+pub sees_put : {list : GName} {room from : ℕ} {text : List ℕ} {old t : Filled} → old.list ≡ list → old.room ≡ room
+    → length text ≤ most_printed → PutsBehind (starting list room from) text t → SeesIn text from old t
+sees_put {room = room} {from = from} {text = text} {t = t} f e few p =
     let h : t.text ≡ window from room text = puts_window p in
     let g : t.text ≡ window from t.room text = h ∙ ap (λ (k : ℕ). window from k text) (sym p.room) in
-    record { room = p.room ∙ sym e; is = g; low = omega (arith, ap length h, length_window from room text) }
+    record { list = p.list ∙ sym f; room = p.room ∙ sym e; is = g; low = omega (arith, ap length h, length_window from room text) }
 
-pub part_seen : (text : List ℕ) (from : ℕ) (old w : Filled) → Sees text from old w → (part : List ℕ) → part ≡ w.text → PartAt text from part
+pub part_seen : (text : List ℕ) (from : ℕ) (old w : Filled) → SeesIn text from old w → (part : List ℕ) → part ≡ w.text → PartAt text from part
 part_seen text from old w s part q =
     let e = s.is in
     rw q (record { is = e ∙ sym (window_itself from w.room text) ∙ ap (λ (j : ℕ). window from j text) (ap length (sym e)) })
@@ -72,7 +73,7 @@ pub record Printing (text : List ℕ) (start old : Filled) (from : ℕ) : Type 0
 pub printing_start : (text : List ℕ) (start : Filled) → Printing text start start 0
 printing_start text start = record { far = omega arith; low = omega arith; room = refl }
 
-module _ (text : List ℕ) (start old : Filled) (from : ℕ) (P : Printing text start old from) (w : Filled) (s : Sees text from old w)
+module _ (text : List ℕ) (start old : Filled) (from : ℕ) (P : Printing text start old from) (w : Filled) (s : SeesIn text from old w)
     (part : List ℕ) (q : part ≡ w.text) where
   long : length part ≡ length (window from w.room text)
   long = ap length (q ∙ s.is)

@@ -5,8 +5,9 @@ use Prim.Native.Nat.{ℕ, ◌-◌, ◌≤◌, min}
 use native.Mathlib.Omega.{arith}
 use lib.ListN.{length, take, drop, length-take, length-drop}
 use lib.Seq.{take-append-le}
+use Rattle.std.specs.Borrow.{GName}
 use Rattle.text.specs.Filled.{Filled, starting}
-use Rattle.text.specs.Text.{Puts}
+use Rattle.text.specs.Text.{PutsBehind}
 use Rattle.text.specs.Window.{window}
 use Rattle.text.proofs.Laws.{drop_append}
 
@@ -22,7 +23,7 @@ window_full from size told rest h =
     let l : size ≤ length (drop from told) = omega (arith, length-take size (drop from told)) in
     ap (take size) (drop_append from told rest) ∙ take-append-le size (drop from told) (drop (from - length told) rest) l
 
-module _ {room from : ℕ} {text : List ℕ} {t : Filled} (p : Puts (starting room from) text t) where
+module _ {list : GName} {room from : ℕ} {text : List ℕ} {t : Filled} (p : PutsBehind (starting list room from) text t) where
   -- the whole text handed over
   pub puts_window : t.text ≡ window from room text
   unfolding window

@@ -1,48 +1,44 @@
 // Text put into a lent list of bytes.
 #![tactic(auto)]
 
-ghost use Rattle.std.specs.Prelude.{◌≡◌, ◌++◌, ◌==◌, length};
-ghost use Rattle.text.specs.Filled.{starting};
-ghost use Rattle.text.specs.Text.{ascii, decimal, Puts};
-
-use std::marker::Model;
+ghost use Rattle.std.specs.Prelude.{◌≡◌, ◌++◌, ◌==◌, ◌≤◌, length};
 
 // A text in a lent list of bytes: how many of them, from the first on, are there, and how many bytes are still to be left out, where the
-// list is a window on a longer text.
+// list is a window on a longer text. Promises see it as `filled` of it.
+// Kept: no model, since a caller's proof knows what it lent only while it sees which list the text is in.
 #[derive(Drop)]
 pub struct Text<'a> {
     bytes: &'a mut [u8],
     len: usize,
     skip: usize,
-}
-
-// What promises see of it: how long the list is, the bytes that are there, and how many are still to be left out.
-impl<'a> Model for Text<'a> {
-    ghost use Rattle.std.specs.Prelude.{◌≤◌, length, take};
-    ghost use Rattle.text.specs.Filled.{Filled};
-
-    ghost Value = { Filled };
-
-    ghost view = { λ t. record { room = length t.bytes.now; text = take t.len t.bytes.now; skip = t.skip } };
-
-    ghost invariant = { λ t. t.len ≤ length t.bytes.now };
+    ghost inside: { len ≤ length bytes.now },
 }
 
 impl<'a> Text<'a> {
+    ghost use Rattle.text.specs.Filled.{filled, starting, resuming};
+    ghost use Rattle.text.specs.Text.{ascii, decimal, Puts};
+
     // A text of no byte, in this list.
     pub fn new(bytes: &'a mut [u8]) -> Text<'a>
-        ensures { result ≡ starting (length bytes.old) 0 }
+        ensures text { filled result ≡ starting bytes.entry.ghost_name (length bytes.old) 0 }
+        ensures same_list { result.bytes.ghost_name ≡ bytes.entry.ghost_name }
     {
-        Text {
-            bytes,
-            len: 0,
-            skip: 0,
-        }
+        Text::resume(bytes, 0, 0)
+    }
+
+    // A text of the first bytes of this list, so many of them, or all where these are fewer; so many bytes of what is put behind them are
+    // to be left out.
+    pub fn resume(bytes: &'a mut [u8], len: usize, skip: usize) -> Text<'a>
+        ensures text { filled result ≡ resuming bytes.entry.ghost_name bytes.old len skip }
+        ensures same_list { result.bytes.ghost_name ≡ bytes.entry.ghost_name }
+    {
+        let len = len.min(bytes.len());
+        Text { bytes, len, skip }
     }
 
     // A text of no byte again, of which the list will show the bytes from this one on.
     pub fn start(&mut self, from: usize)
-        ensures { self.new ≡ starting self.old.room from }
+        ensures { filled self.new ≡ starting (filled self.old).list (filled self.old).room from }
     {
         self.len = 0;
         self.skip = from;
@@ -50,14 +46,14 @@ impl<'a> Text<'a> {
 
     // The bytes that are there.
     pub fn as_bytes(&self) -> &[u8]
-        ensures { result.now ≡ self.now.text }
+        ensures { result.now ≡ (filled self.now).text }
     {
         &self.bytes[..self.len]
     }
 
     // Whether these are as many as the list is long.
     pub fn is_full(&self) -> bool
-        ensures { result ≡ (length self.now.text == self.now.room) }
+        ensures { result ≡ (length (filled self.now).text == (filled self.now).room) }
     {
         self.len == self.bytes.len()
     }
