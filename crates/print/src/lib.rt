@@ -17,7 +17,8 @@ pub fn number(rt: &(impl Print + Eprint), n: u64) {
     let mut room = [0u8; 20];
     let mut digits = Text::new(&mut room);
     digits.number(n);
-    text(rt, digits.as_bytes());
+    let k = digits.as_bytes().len();
+    text(rt, &room[..k]);
 }
 
 // A word of the output, then a number, at the end of a line.

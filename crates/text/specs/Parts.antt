@@ -18,6 +18,7 @@ pub record SeesIn (text : List ℕ) (from : ℕ) (old new : Filled) : Type 0 whe
   pub is : new.text ≡ window from new.room text
   pub low : from + length new.text ≤ max from most_printed
 
+-- the same of a text of the code, which the function leaves as another
 abbrev pub Sees : List ℕ → ℕ → Text → Text → Type 0
 Sees text from old new = SeesIn text from (filled old) (filled new)
 

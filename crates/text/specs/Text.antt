@@ -27,6 +27,7 @@ pub record PutsBehind (old : Filled) (text : List ℕ) (new : Filled) : Type 0 w
   pub skip : new.skip ≡ old.skip - length text
   pub so : new.text ≡ old.text ++ take (old.room - length old.text) (drop old.skip text)
 
+-- the same of a text of the code, which the function leaves as another
 abbrev pub Puts : Text → List ℕ → Text → Type 0
 Puts old text new = PutsBehind (filled old) text (filled new)
 
