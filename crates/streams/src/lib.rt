@@ -2,8 +2,9 @@
 // that of one whose bytes are known the promises say which bytes are read and written.
 #![tactic(auto)]
 
-ghost use Rattle.std.specs.Prelude.{IfSome};
-ghost use Rattle.streams.specs.Streams.{Gave, Got, Took};
+ghost use Rattle.std.specs.Prelude.{◌≡◌, ◌≤◌, length, IfSome, IfOk};
+ghost use Rattle.std.specs.Result.{result_ok};
+ghost use Rattle.streams.specs.Streams.{Gave, Got, Repeats, Took, after_read};
 
 use std::fmt::Write as _;
 use std::io::{Error, ErrorKind, Read, Write};
@@ -46,36 +47,88 @@ fn tell(errors: &impl Eprint, what: &str, error: Error) {
     let _ = eprintln!(errors; "cannot {what}: {reason}");
 }
 
+// How reading stands: there may be more behind so many bytes; or it is over, with so many, or with the error of the read that failed.
+#[derive(Clone, Copy)]
+enum Reading {
+    On(usize),
+    Over(io::Result<usize>),
+}
+
+// Whether a call that gave this answer is made again, which it may be so many times yet: where a signal interrupted it.
+fn is_made_again(answer: io::Result<usize>, left: usize) -> bool
+    ensures { Repeats left answer result }
+{
+    match answer {
+        Ok(_) => false,
+        Err(error) => 0 < left && error.kind() == ErrorKind::Interrupted,
+    }
+}
+
+// How reading stands after `done` bytes and a read of more that gave this answer.
+#[tactic(auto, unfolding(crate::specs::Streams::after_read))]
+fn after_read(buf: &[u8], done: usize, answer: io::Result<usize>) -> Reading
+    requires { done ≤ length buf.now }
+    ensures { result ≡ after_read (length buf.now) done answer }
+{
+    match answer {
+        Ok(n) => {
+            let more = n.min(buf.len() - done);
+            if more == 0 {
+                return Reading::Over(Ok(done));
+            }
+            Reading::On(done + more)
+        }
+        Err(error) => Reading::Over(Err(error)),
+    }
+}
+
+// Standard input to its end, or as much of it as the list is long: how many bytes, or the error of the read that failed.
+fn read_all<R: Read>(input: &mut R, buf: &mut [u8]) -> io::Result<usize>
+    ensures got { IfOk result (Got buf.new) }
+    ensures took { IfOk result (Took (R.remaining input.old) (R.remaining input.new) buf.new) }
+{
+    let mut done: usize = 0;
+    let mut left = AGAIN;
+    // Kept: a read gives as many bytes as it likes, so that no count of turns is known before.
+    while done < buf.len() {
+        let answer = input.read(&mut buf[done..]);
+        if is_made_again(answer, left) {
+            left -= 1;
+            continue;
+        }
+        match after_read(buf, done, answer) {
+            Reading::Over(all) => return all,
+            Reading::On(so_far) => done = so_far,
+        }
+        left = AGAIN;
+    }
+    Ok(done)
+}
+
+// How many bytes were read; a read that failed is told on standard error, with the reason.
+fn told(errors: &impl Eprint, answer: io::Result<usize>) -> Option<usize>
+    ensures { result ≡ result_ok answer }
+{
+    match answer {
+        Ok(n) => Some(n),
+        Err(error) => {
+            tell(errors, "read standard input", error);
+            None
+        }
+    }
+}
+
 // Standard input to its end, or as much of it as the list is long: how many bytes. A read that fails is not taken for the end: it is told
 // on standard error, with the reason, and the answer is none.
 pub fn read<R: Read>(input: &mut R, errors: &impl Eprint, buf: &mut [u8]) -> Option<usize>
     ensures got { IfSome result (Got buf.new) }
     ensures took { IfSome result (Took (R.remaining input.old) (R.remaining input.new) buf.new) }
 {
-    let mut done: usize = 0;
-    let mut left = AGAIN;
-    // Kept: a read gives as many bytes as it likes, so that no count of turns is known before.
-    while done < buf.len() {
-        match input.read(&mut buf[done..]) {
-            Ok(0) => return Some(done),
-            Ok(more) => {
-                done += more;
-                left = AGAIN;
-            }
-            Err(error) => {
-                if left == 0 || error.kind() != ErrorKind::Interrupted {
-                    tell(errors, "read standard input", error);
-                    return None;
-                }
-                left -= 1;
-            }
-        }
-    }
-    Some(done)
+    told(errors, read_all(input, buf))
 }
 
 // Bytes on standard output; whether all of them were written. Where not, that is told on standard error.
-// Kept: the loop is like that of `read`, but promises other things of other bytes; one loop for both would be no plainer.
+// Kept: the loop is like that of `read_all`, but promises other things of other bytes; one loop for both would be no plainer.
 pub fn write<W: Write>(output: &mut W, errors: &impl Eprint, text: &[u8]) -> bool
     ensures { Gave (W.contents output.old) (W.contents output.new) text.now result }
 {
@@ -83,23 +136,23 @@ pub fn write<W: Write>(output: &mut W, errors: &impl Eprint, text: &[u8]) -> boo
     let mut left = AGAIN;
     // Kept: a write takes as many bytes as it likes.
     while done < text.len() {
-        match output.write(&text[done..]) {
+        let answer = output.write(&text[done..]);
+        if is_made_again(answer, left) {
+            left -= 1;
+            continue;
+        }
+        match answer {
             Ok(0) => {
                 let _ = eprintln!(errors; "cannot write standard output: it takes no byte");
                 return false;
             }
-            Ok(taken) => {
-                done += taken;
-                left = AGAIN;
-            }
+            Ok(taken) => done += taken,
             Err(error) => {
-                if left == 0 || error.kind() != ErrorKind::Interrupted {
-                    tell(errors, "write standard output", error);
-                    return false;
-                }
-                left -= 1;
+                tell(errors, "write standard output", error);
+                return false;
             }
         }
+        left = AGAIN;
     }
     true
 }
