@@ -1,19 +1,19 @@
 -- What the calls that are played promise of the world, the lines and the end of a run.
 use mathlib.Core.Path.{◌≡◌, refl, sym, ap, ◌∙◌, subst}
-use mathlib.Core.Bool.{Bool, true, false, cond}
+use mathlib.Core.Bool.{true, false}
 use Rattle.std.proofs.Common.{Option, None, Some, Result, Ok, Err, Bor}
 use mathlib.Core.List.{List, [], ◌∷◌}
 use Prim.Native.Nat.{ℕ, ◌≤◌}
 use native.Mathlib.Omega.{arith}
 use lib.Dec.{eqb}
 use lib.ListN.{length, take}
-use borrow.Author.Tests.{eq-eqb, ne_eqb, not-true}
+use borrow.Author.Tests.{eqb-true, not-true}
 use Rattle.lists.specs.Lists.{value_or}
 use Rattle.refusal.specs.declared.Refusal.{Refusal}
 use Rattle.refusal.specs.Refusal.{number}
 use Rattle.lists.specs.Needs.{Answer, refused, gives, answered, and_then}
 use Rattle.lists.specs.Cells.{Setting, Place}
-use Rattle.lists.proofs.Laws.{by_cases, true_false, answered_refused, answered_gives, gave_number, gave_value, refused_with, same_refusal}
+use Rattle.lists.proofs.Laws.{by_cases, answered_refused, answered_gives, same_refusal}
 use Rattle.page.specs.Pages.{changes_of}
 use Rattle.page.specs.Buffer.{empty_buffer}
 use Rattle.flash.specs.Medium.{views, most_pages}
@@ -38,8 +38,9 @@ use Rattle.operations.specs.Answers.{touched_by, done_of, done}
 use Rattle.advance.specs.Outcomes.{Steps}
 use Rattle.valve_log.specs.History.{Told, began_append, began_commit, began_collect, began_flush}
 use Rattle.valve_log.specs.Reached.{World, world, with_state, step_due, called, filled, stepped, recovered, still}
-use Rattle.journal.proofs.Chain.{none_such, begins, fills, steps, numbered, buffer_numbered, done_is}
+use Rattle.journal.proofs.Chain.{begins, fills, steps, numbered, buffer_numbered, done_is}
 use Rattle.trace.specs.Trace.{Recorded}
+use Rattle.trace.specs.Calls.{is_cut}
 use Rattle.cut_patterns.specs.Struck.{most_bytes}
 use Rattle.player.specs.declared.RecordedCall.{RecordedCall}
 use Rattle.player.specs.declared.RecordedCall.TheVariants as call
@@ -49,7 +50,7 @@ use Rattle.player.specs.declared.Recalled.{Recalled}
 use Rattle.player.specs.Lines.{Line, setting_lines, summary, refusal_lines, recovery_lines}
 use Rattle.player.specs.Run as run
 use Rattle.player.specs.Run.{with_held, run_goes_on, run_ends_with, played}
-use Rattle.player.specs.Played.{LastState, held_by, world_by, settings_in, lines_told, lines_by, FewSet, Plays, CutFits}
+use Rattle.player.specs.Played.{LastState, held_by, world_by, settings_in, lines_told, lines_by, FewSet, Plays, recorded_by, call_of, CutFits}
 use Rattle.player.specs.Played.{told_by, answered_by, refused_by, restarted_by, Restart, restart, restart_of, recalled_by, Recalls}
 
 -- ---- replies
@@ -323,3 +324,38 @@ module _ (m b : List ℕ) (l : LastState) (r : Reply) (f : Result Recalled Refus
 -- a medium on which a cut is played
 pub cut_small : (c : RecordedCall) (n : ℕ) (pattern : Bor (List ℕ)) (m : List ℕ) → c ≡ call.Cut n pattern → CutFits c m → length m ≤ most_bytes
 cut_small c n pattern m e h = rw e at h
+
+-- ---- a call by its code
+
+-- it is a cut where its code is that of one
+cut_of : (code n : ℕ) (ks ws pattern : List ℕ) → is_cut (call_of code n ks ws pattern) ≡ eqb code 6
+unfolding call_of is_cut
+cut_of code n ks ws pattern =
+    by_cases (eqb code 1) (λ q. rw (eqb-true code 1 q) refl) (λ q1. rw q1
+    (by_cases (eqb code 2) (λ q. rw (eqb-true code 2 q) refl) (λ q2. rw q2
+    (by_cases (eqb code 3) (λ q. rw (eqb-true code 3 q) refl) (λ q3. rw q3
+    (by_cases (eqb code 4) (λ q. rw (eqb-true code 4 q) refl) (λ q4. rw q4
+    (by_cases (eqb code 5) (λ q. rw (eqb-true code 5 q) refl) (λ q5. rw q5
+    (by_cases (eqb code 6) (λ q. rw q refl) (λ q6. rw q6
+    (by_cases (eqb code 7) (λ q. rw q refl) (λ q7. rw q7
+    (by_cases (eqb code 8) (λ q. rw q refl) (λ q8. rw q8 refl)))))))))))))))
+
+-- a medium on which it is played
+pub code_fits : (c : RecordedCall) (code n : ℕ) (ks ws pattern m : List ℕ) → recorded_by c ≡ call_of code n ks ws pattern
+    → (code ≡ 6 → length m ≤ most_bytes) → CutFits c m
+unfolding is_cut
+code_fits (call.Format x) code n ks ws pattern m e h = tt
+code_fits (call.Append x y) code n ks ws pattern m e h = tt
+code_fits call.Commit code n ks ws pattern m e h = tt
+code_fits (call.Collect x) code n ks ws pattern m e h = tt
+code_fits call.Step code n ks ws pattern m e h = tt
+code_fits (call.Cut name p) code n ks ws pattern m e h =
+    h (eqb-true code 6 (sym (cut_of code n ks ws pattern) ∙ sym (ap is_cut e)))
+code_fits call.Recover code n ks ws pattern m e h = tt
+code_fits (call.Buffer x y) code n ks ws pattern m e h = tt
+code_fits call.Flush code n ks ws pattern m e h = tt
+
+-- and what is played of it
+pub code_plays : (w : World) (c : RecordedCall) (d : Recorded) (r : Reply) (m b : List ℕ) → recorded_by c ≡ d → Plays w (recorded_by c) r m b
+    → Plays w d r m b
+code_plays w c d r m b e p = subst (λ (x : Recorded). Plays w x r m b) e p

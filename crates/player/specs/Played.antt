@@ -96,6 +96,19 @@ CutFits recorded.Recover m = Unit
 CutFits (recorded.Buffer ks ws) m = Unit
 CutFits recorded.Flush m = Unit
 
+-- the call with this code and these arguments, of which it takes those that it has; a code that is none of the first eight stands for 9
+unfoldable pub call_of : ℕ → ℕ → List ℕ → List ℕ → List ℕ → Recorded
+call_of code n ks ws pattern =
+    cond (eqb code 1) (Recorded.format n)
+    (cond (eqb code 2) (Recorded.append ks ws)
+    (cond (eqb code 3) Recorded.commit
+    (cond (eqb code 4) (Recorded.collect n)
+    (cond (eqb code 5) Recorded.step
+    (cond (eqb code 6) (Recorded.cut n pattern)
+    (cond (eqb code 7) Recorded.recover
+    (cond (eqb code 8) (Recorded.buffer ks ws)
+    Recorded.flush)))))))
+
 -- what `start` promises of a medium m, which it leaves as m', and of the buffer b' that it leaves: "The medium starts all FFh", and there is no state
 pub record Starts (m : List ℕ) (l : LastState) (m' b' : List ℕ) : Type 0 where
   pub medium : m' ≡ blank (length m)

@@ -10,7 +10,7 @@ ghost use Rattle.advance.specs.Outcomes.{Performs};
 ghost use Rattle.trace.specs.Trace.{Recorded, code_at, has_group};
 ghost use Rattle.cut_patterns.specs.Struck.{most_bytes, struck};
 ghost use Rattle.player.specs.Played.{struck_by};
-ghost use Rattle.player.specs.Played.{world_by, Plays, recorded_by, CutFits, Starts, PlaysAt, Playable};
+ghost use Rattle.player.specs.Played.{world_by, Plays, recorded_by, call_of, CutFits, Starts, PlaysAt, Playable};
 ghost use Rattle.player.specs.Played.{answered_by, refused_by, lost_by, restarted_by, Recalls};
 
 use begin::Begun;
@@ -291,7 +291,7 @@ fn cut(m: &mut [u8], b: &mut [u8], last: Option<State>, name: u64, pattern: &[u8
 }
 
 // One call.
-pub fn call(m: &mut [u8], b: &mut [u8], last: Option<State>, c: RecordedCall) -> Reply
+pub fn perform(m: &mut [u8], b: &mut [u8], last: Option<State>, c: RecordedCall) -> Reply
     requires { CutFits c m.old × (length b.old ≡ buffer_bytes) }
     ensures { Plays (world_by m.old last b.old) (recorded_by c.entry) result m.new b.new }
 {
@@ -306,6 +306,51 @@ pub fn call(m: &mut [u8], b: &mut [u8], last: Option<State>, c: RecordedCall) ->
         RecordedCall::Buffer { keys, words } => buffered(m, b, last, keys, words),
         RecordedCall::Flush => flush(m, b, last),
     }
+}
+
+// The call with this code, of the arguments those that it has.
+#[tactic(auto, unfolding(crate::specs::Played::call_of))]
+fn recorded_call<'a>(
+    code: u64,
+    number: u64,
+    keys: &'a [u16],
+    words: &'a [u64],
+    pattern: &'a [u8],
+) -> RecordedCall<'a>
+    ensures { recorded_by result ≡ call_of code number keys.now words.now pattern.now }
+{
+    match code {
+        trace::FORMAT => RecordedCall::Format(number),
+        trace::APPEND => RecordedCall::Append { keys, words },
+        trace::COMMIT => RecordedCall::Commit,
+        trace::COLLECT => RecordedCall::Collect(number),
+        trace::STEP => RecordedCall::Step,
+        trace::CUT => RecordedCall::Cut {
+            name: number,
+            pattern,
+        },
+        trace::RECOVER => RecordedCall::Recover,
+        trace::BUFFER => RecordedCall::Buffer { keys, words },
+        _ => RecordedCall::Flush,
+    }
+}
+
+// One call, by its code and the arguments that it has; what stands for the others means nothing. Any code but the first eight is that of a flush.
+pub fn call<'a>(
+    m: &mut [u8],
+    b: &mut [u8],
+    last: Option<State>,
+    code: u64,
+    number: u64,
+    keys: &'a [u16],
+    words: &'a [u64],
+    pattern: &[u8],
+) -> Reply
+    requires { (code ≡ 6 → length m.old ≤ most_bytes) × (length b.old ≡ buffer_bytes) }
+    ensures { Plays (world_by m.old last b.old) (call_of code number keys.now words.now pattern.now) result m.new b.new }
+{
+    let c = recorded_call(code, number, keys, words, pattern);
+    perform(m, b, last, c)
 }
 
 // Where a run starts: the medium and the buffer all FFh, and no state yet.
@@ -338,8 +383,8 @@ fn play_group(
     let keys = &all_keys[..k];
     let words = &all_words[..k];
     match trace::kind_at(t, i) {
-        Kind::Append => call(m, b, last, RecordedCall::Append { keys, words }),
-        _ => call(m, b, last, RecordedCall::Buffer { keys, words }),
+        Kind::Append => perform(m, b, last, RecordedCall::Append { keys, words }),
+        _ => perform(m, b, last, RecordedCall::Buffer { keys, words }),
     }
 }
 
@@ -350,16 +395,16 @@ pub fn play(t: &[u8], i: usize, at: usize, m: &mut [u8], b: &mut [u8], last: Opt
 {
     let n = trace::number(t, i);
     match trace::kind_at(t, i) {
-        Kind::Format => call(m, b, last, RecordedCall::Format(n)),
+        Kind::Format => perform(m, b, last, RecordedCall::Format(n)),
         Kind::Append | Kind::Buffer => play_group(t, i, at, m, b, last),
-        Kind::Commit => call(m, b, last, RecordedCall::Commit),
-        Kind::Collect => call(m, b, last, RecordedCall::Collect(n)),
-        Kind::Step => call(m, b, last, RecordedCall::Step),
+        Kind::Commit => perform(m, b, last, RecordedCall::Commit),
+        Kind::Collect => perform(m, b, last, RecordedCall::Collect(n)),
+        Kind::Step => perform(m, b, last, RecordedCall::Step),
         Kind::Cut => {
             let pattern = trace::pattern(t, at, n);
-            call(m, b, last, RecordedCall::Cut { name: n, pattern })
+            perform(m, b, last, RecordedCall::Cut { name: n, pattern })
         }
-        Kind::Recover => call(m, b, last, RecordedCall::Recover),
-        Kind::Flush => call(m, b, last, RecordedCall::Flush),
+        Kind::Recover => perform(m, b, last, RecordedCall::Recover),
+        Kind::Flush => perform(m, b, last, RecordedCall::Flush),
     }
 }

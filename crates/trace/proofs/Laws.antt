@@ -82,6 +82,10 @@ module _ (t : List ℕ) where
   unfolding call_count
   count_is c e = e
 
+  pub code_is : (i c : ℕ) → c ≡ le (part (8 + 8 * i) 8 t) → c ≡ code_at t i
+  unfolding code_at
+  code_is i c e = e
+
   pub number_is : (i n c : ℕ) → n ≡ call_count t → c ≡ le (part (8 + 8 * n + 8 * i) 8 t) → c ≡ number_at t i
   unfolding number_at
   number_is i n c e q = rw e at q
@@ -167,6 +171,13 @@ decoded : (c : ℕ) (r : Result Kind UnknownCode) → Decodes c r → result_unw
 decoded c (Ok k) e = rw (sym e) (sym (kind_back k))
 decoded c (Err x) e = sym (kind_none c e.1)
 
+-- beside a code that is that of no kind there stands no group
+pub group_unknown : (c : ℕ) (r : Result Kind UnknownCode) (x : UnknownCode) → Decodes c r → r ≡ Err x → false ≡ has_group c
+unfolding has_group
+group_unknown c r x d e =
+    let h : (x.0 ≡ c) × ((c ≡ 0) ⊎ (9 < c)) = rw e at d in
+    sym (ap (λ (k : Kind). has_group (code_of k)) (kind_none c h.1)) ∙ kind_group c
+
 module _ (t : List ℕ) (i : ℕ) where
   -- a call by its kind
   pub recorded_kind : (n at : ℕ) → n ≡ number_at t i → at ≡ data_start t i → recorded_at t i ≡ recorded_as (code_of (kind_at t i)) n at t
@@ -180,10 +191,6 @@ module _ (t : List ℕ) (i : ℕ) where
   pub cut_code : kind_at t i ≡ Cut → code_at t i ≡ 6
   unfolding kind_at
   cut_code e = eqb-true (code_at t i) 6 (sym (same_cut (code_at t i)) ∙ ap (λ (k : Kind). sameb the_type k Cut) e)
-
-  pub read_is : (c : ℕ) (r : Result Kind UnknownCode) → c ≡ le (part (8 + 8 * i) 8 t) → Decodes c r → Decodes (code_at t i) r
-  unfolding code_at
-  read_is c r e d = rw e at d
 
   pub kind_is : (r : Result Kind UnknownCode) (k : Kind) → Decodes (code_at t i) r → k ≡ result_unwrap_or r Flush → k ≡ kind_at t i
   unfolding kind_at

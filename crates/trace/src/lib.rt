@@ -9,6 +9,33 @@ ghost use Rattle.trace.specs.Trace.{formats_once, recovers_next, call_ok, has_li
 ghost use Rattle.trace.specs.Read.{Listed, HasCall};
 ghost use Rattle.trace.specs.Kinds.{code_of, Decodes, kind_at};
 
+// Codes of calls. Here formatting, with the number of blocks.
+pub const FORMAT: u64 = 1;
+
+// An append, with the number of entries.
+pub const APPEND: u64 = 2;
+
+// A commit.
+pub const COMMIT: u64 = 3;
+
+// A collection, with the block.
+pub const COLLECT: u64 = 4;
+
+// A step.
+pub const STEP: u64 = 5;
+
+// A step cut short, with the page, or 256 + block.
+pub const CUT: u64 = 6;
+
+// A recovery.
+pub const RECOVER: u64 = 7;
+
+// A group put into the write buffer, with the number of entries.
+pub const BUFFER: u64 = 8;
+
+// A flush.
+pub const FLUSH: u64 = 9;
+
 // What a call is. Beside a format a trace has the number of its blocks, beside an append and a buffered group that of the entries, beside a
 // collection the block, and beside a cut the page, or 256 + block, that the step cut short touches.
 #[derive(Clone, Copy, Debug, PartialEq, Eq)]
@@ -35,15 +62,15 @@ impl TryFrom<u64> for Kind {
 
     fn try_from(code: u64) -> Result<Self, UnknownCode> {
         match code {
-            1 => Ok(Kind::Format),
-            2 => Ok(Kind::Append),
-            3 => Ok(Kind::Commit),
-            4 => Ok(Kind::Collect),
-            5 => Ok(Kind::Step),
-            6 => Ok(Kind::Cut),
-            7 => Ok(Kind::Recover),
-            8 => Ok(Kind::Buffer),
-            9 => Ok(Kind::Flush),
+            FORMAT => Ok(Kind::Format),
+            APPEND => Ok(Kind::Append),
+            COMMIT => Ok(Kind::Commit),
+            COLLECT => Ok(Kind::Collect),
+            STEP => Ok(Kind::Step),
+            CUT => Ok(Kind::Cut),
+            RECOVER => Ok(Kind::Recover),
+            BUFFER => Ok(Kind::Buffer),
+            FLUSH => Ok(Kind::Flush),
             _ => Err(UnknownCode(code)),
         }
     }
@@ -103,6 +130,16 @@ pub const MOST: usize = 65536;
 // So many entries of a group are read: one more than an append takes.
 pub const READ: usize = 97;
 
+// Whether a group stands beside a call with this code; beside a code that stands for no call there is none.
+pub fn has_group(code: u64) -> bool
+    ensures { result ≡ has_group code }
+{
+    match Kind::try_from(code) {
+        Ok(kind) => kind.has_group(),
+        Err(_) => false,
+    }
+}
+
 // Whether a trace has its two lists.
 fn has_lists(t: &[u8]) -> bool
     ensures { result ≡ has_lists t.now }
@@ -123,12 +160,20 @@ pub fn count(t: &[u8]) -> usize
     codec::le64(t, 0) as usize
 }
 
+// The code of call i.
+pub fn code(t: &[u8], i: usize) -> u64
+    requires { Listed t.now × (i < call_count t.now) }
+    ensures { result ≡ code_at t.now i }
+{
+    codec::le64(t, 8 + 8 * i)
+}
+
 // What call i is, or its code, if it stands for no call.
 pub fn read_kind(t: &[u8], i: usize) -> Result<Kind, UnknownCode>
     requires { Listed t.now × (i < call_count t.now) }
     ensures { Decodes (code_at t.now i) result }
 {
-    Kind::try_from(codec::le64(t, 8 + 8 * i))
+    Kind::try_from(code(t, i))
 }
 
 // What call i is; in a trace of the form each code stands for a call, and any other is taken for that of a flush.

@@ -11,31 +11,31 @@ use state::State;
 
 // Kept: a trial is one list of numbers, the codes `FORMAT` to `FLUSH` among their arguments: an array of cases with arrays in them is no plainer.
 // Codes of calls. The last digit of a code is the call, as in a trace. Here formatting begins.
-pub const FORMAT: u64 = 1;
+pub const FORMAT: u64 = trace::FORMAT;
 
 // APPEND, n, n keys, n words: an append begins, of 97 entries at most.
-pub const APPEND: u64 = 2;
+pub const APPEND: u64 = trace::APPEND;
 
 // A commit begins.
-pub const COMMIT: u64 = 3;
+pub const COMMIT: u64 = trace::COMMIT;
 
 // COLLECT, block: a collection begins.
-pub const COLLECT: u64 = 4;
+pub const COLLECT: u64 = trace::COLLECT;
 
 // One step of the pending operation, unless the call before it was refused.
-pub const STEP: u64 = 5;
+pub const STEP: u64 = trace::STEP;
 
 // CUT, page or 256 + block: the step due is cut, with a pattern of no 1 bits.
-pub const CUT: u64 = 6;
+pub const CUT: u64 = trace::CUT;
 
 // Recovery: its state takes the place of the last.
-pub const RECOVER: u64 = 7;
+pub const RECOVER: u64 = trace::RECOVER;
 
 // BUFFER, n, n keys, n words: a group is put into the write buffer, of 97 entries at most.
-pub const BUFFER: u64 = 8;
+pub const BUFFER: u64 = trace::BUFFER;
 
 // A flush begins.
-pub const FLUSH: u64 = 9;
+pub const FLUSH: u64 = trace::FLUSH;
 
 // A code that is 10 more is the call with its steps until the operation is over, 20 at most, for media of 16 blocks at most: their formatting takes 17. Here formatting.
 pub const FORMATTED: u64 = 11;
@@ -164,7 +164,7 @@ fn told(r: Reply, steps: usize) -> Trial {
 fn played(m: &mut [u8], b: &mut [u8], t: Trial, c: RecordedCall, steps: usize) -> Trial
     requires { (length m.old ≤ 65536) × (length b.old ≡ buffer_bytes) }
 {
-    told(player::call(m, b, t.state, c), steps)
+    told(player::perform(m, b, t.state, c), steps)
 }
 
 // A call with a number, and with a group of n entries.
@@ -175,16 +175,9 @@ fn called(m: &mut [u8], b: &mut [u8], t: Trial, call: &[u64], n: usize) -> Trial
     let all_words = words(call, n);
     let keys = &all_keys[..n];
     let words = &all_words[..n];
-    let c = match at(call, 0) % 10 {
-        FORMAT => RecordedCall::Format(at(call, 1)),
-        APPEND => RecordedCall::Append { keys, words },
-        COMMIT => RecordedCall::Commit,
-        COLLECT => RecordedCall::Collect(at(call, 1)),
-        RECOVER => RecordedCall::Recover,
-        BUFFER => RecordedCall::Buffer { keys, words },
-        _ => RecordedCall::Flush,
-    };
-    played(m, b, t, c, 0)
+    let code = at(call, 0) % 10;
+    let r = player::call(m, b, t.state, code, at(call, 1), keys, words, &[]);
+    told(r, 0)
 }
 
 // A cut of what is named.
