@@ -356,6 +356,6 @@ code_fits (call.Buffer x y) code n ks ws pattern m e h = tt
 code_fits call.Flush code n ks ws pattern m e h = tt
 
 -- and what is played of it
-pub code_plays : (w : World) (c : RecordedCall) (d : Recorded) (r : Reply) (m b : List ℕ) → recorded_by c ≡ d → Plays w (recorded_by c) r m b
-    → Plays w d r m b
+pub code_plays : (w : World) (c : RecordedCall) (d : Recorded) (r : Reply) (m b : List ℕ) → recorded_by c ≡ d
+    → Plays w (recorded_by c) r m b → Plays w d r m b
 code_plays w c d r m b e p = subst (λ (x : Recorded). Plays w x r m b) e p

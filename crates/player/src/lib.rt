@@ -335,7 +335,8 @@ fn recorded_call<'a>(
     }
 }
 
-// One call, by its code and the arguments that it has; what stands for the others means nothing. Any code but the first eight is that of a flush.
+// One call, by its code and the arguments that it has; what stands for the others means nothing. Any code but the first eight is that of a
+// flush.
 pub fn call<'a>(
     m: &mut [u8],
     b: &mut [u8],
