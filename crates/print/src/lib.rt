@@ -63,8 +63,7 @@ fn room() -> [u8; 524288]
 
 // The listing of a medium.
 pub fn medium(rt: &(impl Print + Eprint), m: &[u8]) {
-    let mut room = room();
-    let mut out = Text::new(&mut room);
-    listing::medium(m, &mut out);
-    text(rt, out.as_bytes());
+    let mut out = room();
+    let k = listing::medium_into(m, &mut out);
+    text(rt, &out[..k]);
 }
