@@ -46,12 +46,11 @@ use Rattle.player.specs.declared.RecordedCall.{RecordedCall}
 use Rattle.player.specs.declared.RecordedCall.TheVariants as call
 use Rattle.player.specs.declared.Told.TheVariants.{Nothing, Refused, Recovered}
 use Rattle.player.specs.declared.Reply.{Reply}
-use Rattle.player.specs.declared.Recalled.{Recalled}
 use Rattle.player.specs.Lines.{Line, setting_lines, summary, refusal_lines, recovery_lines}
 use Rattle.player.specs.Run as run
 use Rattle.player.specs.Run.{with_held, run_goes_on, run_ends_with, played}
 use Rattle.player.specs.Played.{LastState, held_by, world_by, settings_in, lines_told, lines_by, FewSet, Plays, recorded_by, call_of, CutFits}
-use Rattle.player.specs.Played.{told_by, answered_by, refused_by, restarted_by, Restart, restart, restart_of, recalled_by, Recalls}
+use Rattle.player.specs.Played.{told_by, answered_by, refused_by, restarted_by, Restart, restart, restart_of}
 
 -- ---- replies
 
@@ -245,12 +244,6 @@ module _ (m b : List ℕ) (l : LastState) (r : Reply) where
 
 -- ---- recovery
 
-err_ok : (n : Refusal) (y : Recalled) → Err n ≡ Ok y → ⊥
-err_ok n y e = cc
-
-ok_same : (x y : Recalled) → ◌≡◌ {A = Result Recalled Refusal} (Ok x) (Ok y) → x ≡ y
-ok_same x y e = cc
-
 some_same : (x y : State) → Some x ≡ Some y → x ≡ y
 some_same x y e = cc
 
@@ -260,66 +253,71 @@ given x y e = cc
 not_given : (n : ℕ) (x : Restart) → refused n ≡ gives x → ⊥
 not_given n x e = cc
 
-pub recall_refused : (m kept : List ℕ) (r : Result Restored Refusal) (e : Refusal) → Restores m r kept → r ≡ Err e → Recalls m (Err e)
-recall_refused m kept r e t q =
-    record {
-      is = refused_then (λ x. x.state) _ (number e) (recover_of (length m) (views m)) (rw q at t.is);
-      few = λ y z. absurd (err_ok e y z);
-    }
+-- what is kept of the recovery of a medium
+restarts : List ℕ → Answer Restart
+restarts m = and_then (recover_of (length m) (views m)) (λ x. gives (restart_of x))
+
+recall_refused : (m kept : List ℕ) (r : Result Restored Refusal) (e : Refusal) → Restores m r kept → r ≡ Err e
+    → refused (number e) ≡ restarts m
+unfolding restarts
+recall_refused m kept r e t q = refused_then (λ x. x.state) _ (number e) (recover_of (length m) (views m)) (rw q at t.is)
 
 module _ (m kept : List ℕ) (x : Restored) (t : Restores m (Ok x) kept) where
-  pub recall_log : (n : ℕ) → n ≡ length (logged (each m (take x.done kept))) → Recalls m (Ok (record { log = n; state = x.state }))
-  unfolding and_then restart_of
+  recall_log : (n : ℕ) → n ≡ length (logged (each m (take x.done kept))) → gives (restart n (meaning x.state)) ≡ restarts m
+  unfolding restarts and_then restart_of
   recall_log n e =
       let y : state_found (length m) (views m) ≡ gives (meaning x.state) = sym t.is in
       let p : n ≡ length (changes_of (log_of (value_or [] (groups (views m))))) = e ∙ ap length (ap logged (t.pages refl) ∙ sym (log_pages_lem (views m))) in
-      record {
-        is =
-            ap gives (ap (λ (k : ℕ). restart k (meaning x.state)) p ∙ ap (restart _) (accepted_state (length m) (views m) (meaning x.state) y))
-            ∙ sym (ap (λ R. and_then R (λ r. gives (restart_of r))) (accepted (length m) (views m) (meaning x.state) y));
-        few = λ u q.
-            subst (λ (v : Recalled). v.state.index.count ≤ 192) (ok_same (record { log = n; state = x.state }) u q)
-            (recovered_few m (record { number = 0; state = x.state }) (answered_gives 0 (meaning x.state) refl ∙ t.is) refl);
-      }
+      ap gives (ap (λ (k : ℕ). restart k (meaning x.state)) p ∙ ap (restart _) (accepted_state (length m) (views m) (meaning x.state) y))
+      ∙ sym (ap (λ R. and_then R (λ r. gives (restart_of r))) (accepted (length m) (views m) (meaning x.state) y))
+
+  restart_few : x.state.index.count ≤ 192
+  restart_few = recovered_few m (record { number = 0; state = x.state }) (answered_gives 0 (meaning x.state) refl ∙ t.is) refl
 
   -- the list of the kept pages, within 16 bits
   pub kept_within : length kept ≡ most_pages → length (take x.done kept) ≤ most_kept
   kept_within e = let k = kept_short m kept x t e in omega arith
 
-module _ (m b : List ℕ) (l : LastState) (r : Reply) (f : Result Recalled Refusal) (p : Recalls m f) where
+module _ (m b : List ℕ) (l : LastState) (r : Reply) where
   recovery_ends : (n : ℕ) (R : Answer Recovery) → refused n ≡ and_then R (λ x. gives (restart_of x)) → run.played_recovery (world_by m l b) R ≡ run_ends_with (world_by m l b) n
   unfolding run.played_recovery and_then
   recovery_ends n (refused k) e = rw (same_refusal n k e)
   recovery_ends n (gives x) e = absurd (not_given n (restart_of x) e)
 
-  pub recovery_refused : (e : Refusal) (n : ℕ) → f ≡ Err e → n ≡ number e → r ≡ refused_by n true l → Plays (world_by m l b) Recorded.recover r m b
-  unfolding played world_by
-  recovery_refused x n h k e = ended_plays m b l Recorded.recover r n (recovery_ends n (recover_of (length m) (views m)) (ap refused k ∙ ap recalled_by (sym h) ∙ p.is)) e
+  pub recovery_refused : (kept : List ℕ) (f : Result Restored Refusal) (e : Refusal) (n : ℕ) → Restores m f kept → f ≡ Err e → n ≡ number e → r ≡ refused_by n true l
+      → Plays (world_by m l b) Recorded.recover r m b
+  unfolding played world_by restarts
+  recovery_refused kept f x n t h k e =
+      ended_plays m b l Recorded.recover r n (recovery_ends n (recover_of (length m) (views m)) (ap refused k ∙ recall_refused m kept f x t h)) e
 
-  module _ (b' : List ℕ) (y : Recalled) (h : f ≡ Ok y) where
-    recovery_goes : (R : Answer Recovery) → gives (restart y.log (meaning y.state)) ≡ and_then R (λ x. gives (restart_of x)) → b' ≡ empty_buffer
-        → played (world_by m l b) Recorded.recover ≡ run.played_recovery (world_by m l b) R → Plays (world_by m l b) Recorded.recover (restarted_by y.log y.state) m b'
+  module _ (b' kept : List ℕ) (f : Result Restored Refusal) (p : Restores m f kept) (x : Restored) (h : f ≡ Ok x) (n : ℕ)
+      (c : n ≡ length (logged (each m (take x.done kept)))) where
+    restored_ok : Restores m (Ok x) kept
+    restored_ok = subst (λ (v : Result Restored Refusal). Restores m v kept) h p
+
+    recovery_goes : (R : Answer Recovery) → gives (restart n (meaning x.state)) ≡ and_then R (λ r. gives (restart_of r)) → b' ≡ empty_buffer
+        → played (world_by m l b) Recorded.recover ≡ run.played_recovery (world_by m l b) R → Plays (world_by m l b) Recorded.recover (restarted_by n x.state) m b'
     unfolding run.played_recovery and_then recovered recovery_lines summary world_by held_by lines_told settings_in restart_of
-    recovery_goes (refused n) e z w = absurd (not_given n (restart y.log (meaning y.state)) (sym e))
-    recovery_goes (gives x) e z w =
-        let g : restart y.log (meaning y.state) ≡ restart_of x = given (restart y.log (meaning y.state)) (restart_of x) e in
+    recovery_goes (refused k) e z w = absurd (not_given k (restart n (meaning x.state)) (sym e))
+    recovery_goes (gives y) e z w =
+        let g : restart n (meaning x.state) ≡ restart_of y = given (restart n (meaning x.state)) (restart_of y) e in
         let set : List Place → List Setting = words (views m) in
         record {
           after =
-              ap (λ (u : Restart). world m (Some u.state) b') g ∙ ap (λ (k : List ℕ). world m (Some x.state) k) z
+              ap (λ (u : Restart). world m (Some u.state) b') g ∙ ap (λ (k : List ℕ). world m (Some y.state) k) z
               ∙ ap (λ (t : run.Turn). t.moment.after) (sym w);
           lines =
               ap (λ (u : Restart). Line.log_length u.log ∷ Line.valves_set (length (set u.state.index)) ∷ setting_lines (set u.state.index)) g
               ∙ ap (λ (t : run.Turn). t.lines) (sym w);
           ends = ap (λ (t : run.Turn). t.ends) (sym w);
-          few = record { most = λ log s q k. subst (λ (v : State). v.index.count ≤ 192) (some_same y.state s k) (p.few y h) };
+          few = record { most = λ log s q k. subst (λ (v : State). v.index.count ≤ 192) (some_same x.state s k) (restart_few m kept x restored_ok) };
         }
 
-    pub recovery_accepted : b' ≡ empty_buffer → r ≡ restarted_by y.log y.state → Plays (world_by m l b) Recorded.recover r m b'
-    unfolding played world_by
+    pub recovery_accepted : b' ≡ empty_buffer → r ≡ restarted_by n x.state → Plays (world_by m l b) Recorded.recover r m b'
+    unfolding played world_by restarts
     recovery_accepted z e =
-        subst (λ (x : Reply). Plays (world_by m l b) Recorded.recover x m b') (sym e)
-        (recovery_goes (recover_of (length m) (views m)) (ap recalled_by (sym h) ∙ p.is) z refl)
+        subst (λ (v : Reply). Plays (world_by m l b) Recorded.recover v m b') (sym e)
+        (recovery_goes (recover_of (length m) (views m)) (recall_log m kept x restored_ok n c) z refl)
 
 -- a medium on which a cut is played
 pub cut_small : (c : RecordedCall) (n : ℕ) (pattern : Bor (List ℕ)) (m : List ℕ) → c ≡ call.Cut n pattern → CutFits c m → length m ≤ most_bytes

@@ -1,9 +1,7 @@
 -- What the code promises of a recorded call: the world that it leaves, the lines that are printed of it, and whether the run ends with it.
 use Rattle.std.specs.Prelude.{◌≡◌, Bool, true, false, cond, List, [], ◌∷◌, ℕ, ◌≤◌, length, eqb}
-use Rattle.std.specs.Prelude.{Option, None, Some, Result, Ok, Err}
-use Rattle.refusal.specs.declared.Refusal.{Refusal}
-use Rattle.refusal.specs.Refusal.{number}
-use Rattle.lists.specs.Needs.{Answer, refused, gives, and_then}
+use Rattle.std.specs.Prelude.{Option, None, Some}
+use Rattle.lists.specs.Needs.{Answer, refused, gives}
 use Rattle.lists.specs.Cells.{Setting, listed}
 use Rattle.codec.specs.Codec.{blank}
 use Rattle.page.specs.Pages.{changes_of}
@@ -12,7 +10,7 @@ use Rattle.flash.specs.Medium.{views}
 use Rattle.nodes.specs.Nodes.{words}
 use Rattle.state.specs.declared.State.{State}
 use Rattle.state.specs.State.{Held, meaning}
-use Rattle.recovery.specs.Recovery.{Recovery, recover as recover_of}
+use Rattle.recovery.specs.Recovery.{Recovery}
 use Rattle.step.specs.Step.{Step}
 use Rattle.valve_log.specs.Reached.{World, world, fresh}
 use Rattle.trace.specs.Trace.{Recorded, data_start, recorded_at}
@@ -26,7 +24,6 @@ use Rattle.player.specs.declared.RecordedCall.TheVariants as recorded
 use Rattle.player.specs.declared.Told.{Told}
 use Rattle.player.specs.declared.Told.TheVariants.{Nothing, Refused, Recovered}
 use Rattle.player.specs.declared.Reply.{Reply}
-use Rattle.player.specs.declared.Recalled.{Recalled}
 
 -- ---- the code's structs
 
@@ -158,15 +155,6 @@ restart n s = record { log = n; state = s }
 
 unfoldable pub restart_of : Recovery → Restart
 restart_of r = restart (length (changes_of r.log)) r.state
-
-abbrev pub recalled_by : Result Recalled Refusal → Answer Restart
-recalled_by (Ok r) = gives (restart r.log (meaning r.state))
-recalled_by (Err e) = refused (number e)
-
--- what is promised of it
-pub record Recalls (m : List ℕ) (r : Result Recalled Refusal) : Type 0 where
-  pub is : recalled_by r ≡ and_then (recover_of (length m) (views m)) (λ x. gives (restart_of x))
-  pub few : (x : Recalled) → r ≡ Ok x → x.state.index.count ≤ 192
 
 -- a cut in the step due, if there is one and the cut names what it touches
 unfoldable pub struck_by : List ℕ → ℕ → List ℕ → Answer Step → Struck

@@ -11,7 +11,7 @@ ghost use Rattle.trace.specs.Trace.{Recorded, code_at, has_group};
 ghost use Rattle.cut_patterns.specs.Struck.{most_bytes, struck};
 ghost use Rattle.player.specs.Played.{struck_by};
 ghost use Rattle.player.specs.Played.{world_by, Plays, recorded_by, call_of, CutFits, Starts, PlaysAt, Playable};
-ghost use Rattle.player.specs.Played.{answered_by, refused_by, lost_by, restarted_by, Recalls};
+ghost use Rattle.player.specs.Played.{answered_by, refused_by, lost_by, restarted_by};
 
 use begin::Begun;
 use operations::Stepped;
@@ -183,47 +183,28 @@ fn step(m: &mut [u8], b: &mut [u8], last: Option<State>) -> Reply
     answered(r.number, t)
 }
 
-// What an accepted recovery gives: the length of the log, and the state.
-#[derive(Clone, Copy)]
-struct Recalled {
-    log: usize,
-    state: State,
-}
-
-// A recovery, or what refuses it.
-fn recall(m: &[u8]) -> Result<Recalled, Refusal>
-    ensures { Recalls m.now result }
-{
-    let mut kept = [0u16; flash::PAGES];
-    let r = recover::recover_into(m, &mut kept)?;
-    let log = changes::count(m, &kept[..r.done]);
-    Ok(Recalled {
-        log,
-        state: r.state,
-    })
-}
-
-// Recovery: where it is accepted the buffer is lent all FFh from then on, and where it is refused the run ends.
+// Recovery: where it is accepted the buffer is lent all FFh from then on, and where it is refused the run ends. A refusal is returned at once, since
+// the compiler would fill a state with zeros for each arm of a `match` that answers.
 fn recovery(m: &[u8], b: &mut [u8], last: Option<State>) -> Reply
     requires { length b.old ≡ buffer_bytes }
     ensures { Plays (world_by m.now last b.old) Recorded.recover result m.now b.new }
 {
-    match recall(m) {
-        Err(refusal) => refused(refusal.number(), true, last),
-        Ok(r) => {
-            buffer::clear(b);
-            restored(r)
-        }
-    }
+    let mut kept = [0u16; flash::PAGES];
+    let r = match recover::recover_into(m, &mut kept) {
+        Ok(r) => r,
+        Err(refusal) => return refused(refusal.number(), true, last),
+    };
+    let log = changes::count(m, &kept[..r.done]);
+    buffer::clear(b);
+    restored(log, r.state)
 }
 
-// The reply of a recovery that was accepted.
-fn restored(r: Recalled) -> Reply
-    ensures { result ≡ restarted_by r.log r.state }
+// The reply of a recovery that was accepted, with a log of this length.
+fn restored(log: usize, s: State) -> Reply
+    ensures { result ≡ restarted_by log s }
 {
-    let s = r.state;
     Reply {
-        told: Told::Recovered(r.log),
+        told: Told::Recovered(log),
         ends: false,
         last: Some(s),
     }

@@ -1,9 +1,16 @@
-use Rattle.player.proofs.Laws.{recovery_accepted, recovery_refused}
+use Rattle.filing.proofs.Laws.{kept_part}
+use Rattle.player.proofs.Laws.{kept_within, recovery_accepted, recovery_refused}
 use borrow.Author.Rules.{rules}
 use Rattle.player.proofs.recovery.Goals as goal
 
 pub returns-in-Err : goal.returns-in-Err
 returns-in-Err c = search (recovery_refused, rules)
 
-pub returns-in-Ok : goal.returns-in-Ok
-returns-in-Ok c = search (recovery_accepted, rules)
+pub slice_bounds-count-end : goal.slice_bounds-count-end
+slice_bounds-count-end c = search (kept_part, rules)
+
+pub count-log-requires : goal.count-log-requires
+count-log-requires c = search (kept_within, rules)
+
+pub returns : goal.returns
+returns c = search (recovery_accepted, rules, c.recover_into.ensures, c.in-Ok.is)
