@@ -253,54 +253,48 @@ given x y e = cc
 not_given : (n : ℕ) (x : Restart) → refused n ≡ gives x → ⊥
 not_given n x e = cc
 
--- what is kept of the recovery of a medium
-restarts : List ℕ → Answer Restart
+-- what the recovery of a medium gives a run: how long the log is and the state, or what refuses it
+abbrev pub restarts : List ℕ → Answer Restart
 restarts m = and_then (recover_of (length m) (views m)) (λ x. gives (restart_of x))
 
-recall_refused : (m kept : List ℕ) (r : Result Restored Refusal) (e : Refusal) → Restores m r kept → r ≡ Err e
+pub recall_refused : (m kept : List ℕ) (r : Result Restored Refusal) (e : Refusal) → Restores m r kept → r ≡ Err e
     → refused (number e) ≡ restarts m
-unfolding restarts
 recall_refused m kept r e t q = refused_then (λ x. x.state) _ (number e) (recover_of (length m) (views m)) (rw q at t.is)
 
 module _ (m kept : List ℕ) (x : Restored) (t : Restores m (Ok x) kept) where
-  recall_log : (n : ℕ) → n ≡ length (logged (each m (take x.done kept))) → gives (restart n (meaning x.state)) ≡ restarts m
-  unfolding restarts and_then restart_of
+  pub recall_log : (n : ℕ) → n ≡ length (logged (each m (take x.done kept))) → gives (restart n (meaning x.state)) ≡ restarts m
+  unfolding and_then restart_of
   recall_log n e =
       let y : state_found (length m) (views m) ≡ gives (meaning x.state) = sym t.is in
       let p : n ≡ length (changes_of (log_of (value_or [] (groups (views m))))) = e ∙ ap length (ap logged (t.pages refl) ∙ sym (log_pages_lem (views m))) in
       ap gives (ap (λ (k : ℕ). restart k (meaning x.state)) p ∙ ap (restart _) (accepted_state (length m) (views m) (meaning x.state) y))
       ∙ sym (ap (λ R. and_then R (λ r. gives (restart_of r))) (accepted (length m) (views m) (meaning x.state) y))
 
-  restart_few : x.state.index.count ≤ 192
+  pub restart_few : x.state.index.count ≤ 192
   restart_few = recovered_few m (record { number = 0; state = x.state }) (answered_gives 0 (meaning x.state) refl ∙ t.is) refl
 
   -- the list of the kept pages, within 16 bits
   pub kept_within : length kept ≡ most_pages → length (take x.done kept) ≤ most_kept
   kept_within e = let k = kept_short m kept x t e in omega arith
 
+-- a recovery played, by what the medium's recovery gives
 module _ (m b : List ℕ) (l : LastState) (r : Reply) where
   recovery_ends : (n : ℕ) (R : Answer Recovery) → refused n ≡ and_then R (λ x. gives (restart_of x)) → run.played_recovery (world_by m l b) R ≡ run_ends_with (world_by m l b) n
   unfolding run.played_recovery and_then
   recovery_ends n (refused k) e = rw (same_refusal n k e)
   recovery_ends n (gives x) e = absurd (not_given n (restart_of x) e)
 
-  pub recovery_refused : (kept : List ℕ) (f : Result Restored Refusal) (e : Refusal) (n : ℕ) → Restores m f kept → f ≡ Err e → n ≡ number e → r ≡ refused_by n true l
-      → Plays (world_by m l b) Recorded.recover r m b
-  unfolding played world_by restarts
-  recovery_refused kept f x n t h k e =
-      ended_plays m b l Recorded.recover r n (recovery_ends n (recover_of (length m) (views m)) (ap refused k ∙ recall_refused m kept f x t h)) e
+  pub recovery_refused : (n : ℕ) → refused n ≡ restarts m → r ≡ refused_by n true l → Plays (world_by m l b) Recorded.recover r m b
+  unfolding played world_by
+  recovery_refused n k e = ended_plays m b l Recorded.recover r n (recovery_ends n (recover_of (length m) (views m)) k) e
 
-  module _ (b' kept : List ℕ) (f : Result Restored Refusal) (p : Restores m f kept) (x : Restored) (h : f ≡ Ok x) (n : ℕ)
-      (c : n ≡ length (logged (each m (take x.done kept)))) where
-    restored_ok : Restores m (Ok x) kept
-    restored_ok = subst (λ (v : Result Restored Refusal). Restores m v kept) h p
-
-    recovery_goes : (R : Answer Recovery) → gives (restart n (meaning x.state)) ≡ and_then R (λ r. gives (restart_of r)) → b' ≡ empty_buffer
-        → played (world_by m l b) Recorded.recover ≡ run.played_recovery (world_by m l b) R → Plays (world_by m l b) Recorded.recover (restarted_by n x.state) m b'
+  module _ (b' : List ℕ) (n : ℕ) (s : State) (few : s.index.count ≤ 192) where
+    recovery_goes : (R : Answer Recovery) → gives (restart n (meaning s)) ≡ and_then R (λ r. gives (restart_of r)) → b' ≡ empty_buffer
+        → played (world_by m l b) Recorded.recover ≡ run.played_recovery (world_by m l b) R → Plays (world_by m l b) Recorded.recover (restarted_by n s) m b'
     unfolding run.played_recovery and_then recovered recovery_lines summary world_by held_by lines_told settings_in restart_of
-    recovery_goes (refused k) e z w = absurd (not_given k (restart n (meaning x.state)) (sym e))
+    recovery_goes (refused k) e z w = absurd (not_given k (restart n (meaning s)) (sym e))
     recovery_goes (gives y) e z w =
-        let g : restart n (meaning x.state) ≡ restart_of y = given (restart n (meaning x.state)) (restart_of y) e in
+        let g : restart n (meaning s) ≡ restart_of y = given (restart n (meaning s)) (restart_of y) e in
         let set : List Place → List Setting = words (views m) in
         record {
           after =
@@ -310,14 +304,28 @@ module _ (m b : List ℕ) (l : LastState) (r : Reply) where
               ap (λ (u : Restart). Line.log_length u.log ∷ Line.valves_set (length (set u.state.index)) ∷ setting_lines (set u.state.index)) g
               ∙ ap (λ (t : run.Turn). t.lines) (sym w);
           ends = ap (λ (t : run.Turn). t.ends) (sym w);
-          few = record { most = λ log s q k. subst (λ (v : State). v.index.count ≤ 192) (some_same x.state s k) (restart_few m kept x restored_ok) };
+          few = record { most = λ log u q k. subst (λ (v : State). v.index.count ≤ 192) (some_same s u k) few };
         }
 
-    pub recovery_accepted : b' ≡ empty_buffer → r ≡ restarted_by n x.state → Plays (world_by m l b) Recorded.recover r m b'
-    unfolding played world_by restarts
-    recovery_accepted z e =
-        subst (λ (v : Reply). Plays (world_by m l b) Recorded.recover v m b') (sym e)
-        (recovery_goes (recover_of (length m) (views m)) (recall_log m kept x restored_ok n c) z refl)
+    pub recovery_accepted : gives (restart n (meaning s)) ≡ restarts m → b' ≡ empty_buffer → r ≡ restarted_by n s
+        → Plays (world_by m l b) Recorded.recover r m b'
+    unfolding played world_by
+    recovery_accepted k z e =
+        subst (λ (v : Reply). Plays (world_by m l b) Recorded.recover v m b') (sym e) (recovery_goes (recover_of (length m) (views m)) k z refl)
+
+  -- the same of a medium that the code recovered
+  pub restored_refused : (kept : List ℕ) (f : Result Restored Refusal) (e : Refusal) (n : ℕ) → Restores m f kept → f ≡ Err e → n ≡ number e → r ≡ refused_by n true l
+      → Plays (world_by m l b) Recorded.recover r m b
+  restored_refused kept f x n t h k e = recovery_refused n (ap refused k ∙ recall_refused m kept f x t h) e
+
+  module _ (b' kept : List ℕ) (f : Result Restored Refusal) (p : Restores m f kept) (x : Restored) (h : f ≡ Ok x) (n : ℕ)
+      (c : n ≡ length (logged (each m (take x.done kept)))) where
+    restored_ok : Restores m (Ok x) kept
+    restored_ok = subst (λ (v : Result Restored Refusal). Restores m v kept) h p
+
+    pub restored_accepted : b' ≡ empty_buffer → r ≡ restarted_by n x.state → Plays (world_by m l b) Recorded.recover r m b'
+    restored_accepted z e =
+        recovery_accepted b' n x.state (restart_few m kept x restored_ok) (recall_log m kept x restored_ok n c) z e
 
 -- a medium on which a cut is played
 pub cut_small : (c : RecordedCall) (n : ℕ) (pattern : Bor (List ℕ)) (m : List ℕ) → c ≡ call.Cut n pattern → CutFits c m → length m ≤ most_bytes
